@@ -1,0 +1,5 @@
+pub mod Along
+pub mod Conjoined
+pub mod Searched
+pub mod Tabled
+pub mod Words

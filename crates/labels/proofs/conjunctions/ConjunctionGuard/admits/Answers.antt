@@ -1,0 +1,6 @@
+use borrow.Author.Needs.{needs}
+use Rattle.labels.proofs.Conjoined.{by-words}
+use Rattle.labels.proofs.conjunctions.ConjunctionGuard.admits.Needs as need
+
+pub returns : need.returns
+returns c = by-words (c .args .self .required) (c .args .self .excluded) (c .args .choice .bits) (search needs) (search needs)

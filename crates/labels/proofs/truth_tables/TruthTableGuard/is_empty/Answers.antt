@@ -1,0 +1,6 @@
+use borrow.Author.Needs.{needs}
+use Rattle.labels.proofs.Tabled.{empty-by-word}
+use Rattle.labels.proofs.truth_tables.TruthTableGuard.is_empty.Needs as need
+
+pub returns : need.returns
+returns c = empty-by-word (c .args .self .word) (search needs)

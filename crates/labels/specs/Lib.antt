@@ -1,0 +1,7 @@
+pub mod Choices
+pub mod Conjunctions
+pub mod Faults
+pub mod Guards
+pub mod Literals
+pub mod Paths
+pub mod Tables

@@ -1,0 +1,30 @@
+-- Literals: a label, asked to be in a choice or to be out of it. Assumes nothing.
+use Prim.Native.Nat.{ℕ}
+use mathlib.Core.Bool.{Bool, not}
+use Rattle.labels.specs.declared.literals.Literal.{Literal}
+use Rattle.labels.specs.declared.literals.Sign.{Sign}
+use Rattle.labels.specs.declared.literals.Sign.the-variants.{Plus, Minus}
+use Rattle.labels.specs.Choices.{has}
+
+-- plus takes an answer as it is, minus turns it round
+abbrev pub signed : Sign → Bool → Bool
+signed Plus b = b
+signed Minus b = not b
+
+-- +l holds at the choices with l, and -l at the others
+abbrev pub holds : Literal → ℕ → Bool
+holds literal choice = signed (literal .sign) (has choice (literal .label))
+
+abbrev pub turned : Sign → Sign
+turned Plus = Minus
+turned Minus = Plus
+
+-- the literal that holds exactly where this one does not
+abbrev pub opposite : Literal → Literal
+opposite literal = record { sign = turned (literal .sign); label = literal .label }
+
+abbrev pub plus : ℕ → Literal
+plus l = record { sign = Plus; label = l }
+
+abbrev pub minus : ℕ → Literal
+minus l = record { sign = Minus; label = l }

@@ -1,0 +1,99 @@
+// The conjunction kind: labels that must be in, and labels that must be out.
+ghost use mathlib.Core.Path.{_≡_};
+ghost use mathlib.Core.Bool.{true};
+ghost use Rattle.labels.specs.Conjunctions.{conjunction-admits, settled, settle, words, literal-words, meet-words, empty-words};
+ghost use Rattle.labels.specs.Guards.{everything, literal-guard, meet};
+use crate::choices::Choice;
+use crate::guards::Guard;
+use crate::literals::Literal;
+use crate::literals::Sign;
+
+// Both words have bit l set for the labels l that they name. Words that contradict each other are
+// all written as one value, so that there is one empty guard.
+#[derive(Clone, Copy, PartialEq, Eq, Debug)]
+pub struct Conjunction {
+    required: u64,
+    excluded: u64,
+    ghost one_empty: { settled required excluded ≡ true },
+}
+
+impl Conjunction {
+    // The guard that asks for the labels of one word to be in and for those of the other to be out.
+    pub fn of_words(required: u64, excluded: u64) -> Conjunction
+        ensures { λ r. ⌜ words (r .required) (r .excluded) ≡ settle required excluded ⌝ }
+    {
+        if required & excluded == 0 {
+            Conjunction { required, excluded }
+        } else {
+            Conjunction {
+                required: u64::MAX,
+                excluded: u64::MAX,
+            }
+        }
+    }
+
+    // The labels that must be in, as a word.
+    pub fn required(self) -> u64
+        ensures { λ r. ⌜ r ≡ self .required ⌝ }
+    {
+        self.required
+    }
+
+    // The labels that must be out, as a word.
+    pub fn excluded(self) -> u64
+        ensures { λ r. ⌜ r ≡ self .excluded ⌝ }
+    {
+        self.excluded
+    }
+}
+
+// It knows all 64 labels of a choice.
+pub impl Guard for Conjunction as ConjunctionGuard {
+    ghost known = { 64 };
+
+    ghost admitted = { λ g. conjunction-admits (g .required) (g .excluded) };
+
+    fn label_count() -> u32 {
+        64
+    }
+
+    fn everything() -> Conjunction
+        ensures admitted { λ r. ⌜ conjunction-admits (r .required) (r .excluded) ≡ everything ⌝ }
+        ensures value { λ r. ⌜ words (r .required) (r .excluded) ≡ words 0 0 ⌝ }
+    {
+        Conjunction::of_words(0, 0)
+    }
+
+    fn of_literal(literal: Literal) -> Conjunction
+        ensures admitted { λ r. ⌜ conjunction-admits (r .required) (r .excluded) ≡ literal-guard 64 literal ⌝ }
+        ensures value { λ r. ⌜ words (r .required) (r .excluded) ≡ literal-words literal ⌝ }
+    {
+        if literal.label >= 64 {
+            return Conjunction::of_words(u64::MAX, u64::MAX);
+        }
+        let word = 1u64 << literal.label;
+        match literal.sign {
+            Sign::Plus => Conjunction::of_words(word, 0),
+            Sign::Minus => Conjunction::of_words(0, word),
+        }
+    }
+
+    fn meet(self, other: Conjunction) -> Conjunction
+        ensures admitted { λ r. ⌜ conjunction-admits (r .required) (r .excluded) ≡ meet (conjunction-admits (self .required) (self .excluded)) (conjunction-admits (other .required) (other .excluded)) ⌝ }
+        ensures value { λ r. ⌜ words (r .required) (r .excluded) ≡ meet-words (words (self .required) (self .excluded)) (words (other .required) (other .excluded)) ⌝ }
+    {
+        Conjunction::of_words(
+            self.required | other.required,
+            self.excluded | other.excluded,
+        )
+    }
+
+    fn admits(self, choice: Choice) -> bool {
+        let labels = choice.bits;
+        (labels & self.required == self.required) & (labels & self.excluded == 0)
+    }
+
+    fn is_empty(self) -> bool {
+        self.required & self.excluded != 0
+    }
+}

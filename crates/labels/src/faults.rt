@@ -1,0 +1,113 @@
+// What a call answers when it turns its caller back: which refusal, on which line, at which place.
+ghost use mathlib.Core.Path.{_≡_};
+ghost use Prim.Native.Nat.{ℕ};
+ghost use Rattle.labels.specs.Faults.{code, fault};
+
+// The part of the engine that a fault is told by.
+#[derive(Clone, Copy, PartialEq, Eq, Debug)]
+pub enum Layer {
+    Text,
+    Statement,
+    Store,
+}
+
+// Why a call was turned back. The discriminants are the numbers that users see.
+#[derive(Clone, Copy, PartialEq, Eq, Debug)]
+pub enum Refusal {
+    WordNotAllowed = 11,
+    NotANumber = 12,
+    WordsLeftOver = 13,
+    LineTooLong = 14,
+    LimitExceeded = 15,
+    FormOutOfPlace = 16,
+    UnknownColumn = 21,
+    UnknownLabel = 22,
+    CountOutOfLimits = 23,
+    TestOutOfForm = 24,
+    TableFull = 31,
+    AnswerFull = 32,
+    SheetFull = 33,
+    PartnersFull = 34,
+    ViewerOutOfRange = 41,
+    DayOutOfRange = 42,
+    ChoiceNotKept = 43,
+    PlaceOutOfRange = 51,
+    StoreNotEmpty = 52,
+}
+
+impl Refusal {
+    // The number that users see.
+    pub fn number(self) -> u32
+        ensures { λ r. ⌜ r ≡ code self .number ⌝ }
+    {
+        self as u32
+    }
+
+    // The layer that tells it.
+    pub fn layer(self) -> Layer
+        ensures { λ r. ⌜ r ≡ code self .layer ⌝ }
+    {
+        match self {
+            Refusal::WordNotAllowed
+            | Refusal::NotANumber
+            | Refusal::WordsLeftOver
+            | Refusal::LineTooLong
+            | Refusal::LimitExceeded
+            | Refusal::FormOutOfPlace => Layer::Text,
+            Refusal::UnknownColumn
+            | Refusal::UnknownLabel
+            | Refusal::CountOutOfLimits
+            | Refusal::TestOutOfForm
+            | Refusal::ViewerOutOfRange
+            | Refusal::DayOutOfRange
+            | Refusal::ChoiceNotKept => Layer::Statement,
+            Refusal::TableFull
+            | Refusal::AnswerFull
+            | Refusal::SheetFull
+            | Refusal::PartnersFull
+            | Refusal::PlaceOutOfRange
+            | Refusal::StoreNotEmpty => Layer::Store,
+        }
+    }
+}
+
+// A refusal with where it was met: the script's line, from 1 (0 outside a script), and the place
+// that the refusal speaks of.
+#[derive(Clone, Copy, PartialEq, Eq, Debug)]
+pub struct Fault {
+    pub refusal: Refusal,
+    pub line: u32,
+    pub place: u32,
+}
+
+impl Fault {
+    // A fault outside a script.
+    pub fn new(refusal: Refusal, place: u32) -> Fault
+        ensures { λ r. ⌜ r ≡ fault refusal place ⌝ }
+    {
+        Fault {
+            refusal,
+            line: 0,
+            place,
+        }
+    }
+
+    // The same fault, told of a line of a script.
+    pub fn on_line(self, line: u32) -> Fault
+        ensures { λ r. ⌜ r ≡ record { refusal = self .refusal; line = line; place = self .place } ⌝ }
+    {
+        Fault { line, ..self }
+    }
+
+    pub fn number(self) -> u32
+        ensures { λ r. ⌜ r ≡ code (self .refusal) .number ⌝ }
+    {
+        self.refusal.number()
+    }
+
+    pub fn layer(self) -> Layer
+        ensures { λ r. ⌜ r ≡ code (self .refusal) .layer ⌝ }
+    {
+        self.refusal.layer()
+    }
+}

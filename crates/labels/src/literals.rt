@@ -1,0 +1,67 @@
+// Literals: a label that is asked to be in a choice, or to be out of it.
+ghost use mathlib.Core.Path.{_≡_};
+ghost use mathlib.Core.Bool.{not};
+ghost use Prim.Native.Nat.{ℕ};
+ghost use Rattle.labels.specs.Literals.{holds, plus, minus, opposite};
+use crate::choices::Choice;
+
+#[derive(Clone, Copy, PartialEq, Eq, Debug)]
+pub enum Sign {
+    Plus,
+    Minus,
+}
+
+// A label with its sign. The label is any number: whether it is known is the guard kind's to say.
+#[derive(Clone, Copy, PartialEq, Eq, Debug)]
+pub struct Literal {
+    pub sign: Sign,
+    pub label: u32,
+}
+
+impl Literal {
+    // Holds at the choices with the label.
+    pub fn plus(label: u32) -> Literal
+        ensures { λ r. ⌜ r ≡ plus label ⌝ }
+    {
+        Literal {
+            sign: Sign::Plus,
+            label,
+        }
+    }
+
+    // Holds at the choices without the label.
+    pub fn minus(label: u32) -> Literal
+        ensures { λ r. ⌜ r ≡ minus label ⌝ }
+    {
+        Literal {
+            sign: Sign::Minus,
+            label,
+        }
+    }
+
+    // The literal that holds exactly where this one does not.
+    pub fn opposite(self) -> Literal
+        ensures value { λ r. ⌜ r ≡ opposite self ⌝ }
+        ensures turned { λ r. ⌜ ((c : ℕ) → holds r c ≡ not (holds self c)) ⌝ }
+    {
+        let sign = match self.sign {
+            Sign::Plus => Sign::Minus,
+            Sign::Minus => Sign::Plus,
+        };
+        Literal {
+            sign,
+            label: self.label,
+        }
+    }
+
+    // Whether the literal holds at the choice.
+    pub fn holds(self, choice: Choice) -> bool
+        ensures { λ r. ⌜ r ≡ holds self (choice .bits) ⌝ }
+    {
+        let inside = choice.has(self.label);
+        match self.sign {
+            Sign::Plus => inside,
+            Sign::Minus => !inside,
+        }
+    }
+}

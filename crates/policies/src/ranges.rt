@@ -1,0 +1,63 @@
+// Numbers that are checked once: viewers and days.
+ghost use mathlib.Core.Path.{_≡_};
+ghost use Prim.Native.Nat.{_≤_};
+ghost use Rattle.std.specs.Results.{Cases};
+ghost use Rattle.std.specs.declared.result.Result.the-variants.{Ok, Err};
+ghost use Rattle.policies.specs.Ranges.{in-range, viewer-number, day-number};
+use labels::Fault;
+use labels::Refusal;
+
+// The number, if it lies between the two bounds; else the refusal, at place 0.
+pub fn checked(n: i32, low: u32, high: u32, refusal: Refusal) -> Result<u32, Fault>
+    ensures { λ r. ⌜ r ≡ in-range low high refusal n ⌝ }
+{
+    match u32::try_from(n) {
+        Ok(number) if low <= number && number <= high => Ok(number),
+        _ => Err(Fault::new(refusal, 0)),
+    }
+}
+
+// Someone who asks: a number from 1 to 9,999.
+#[derive(Clone, Copy, PartialEq, Eq, Debug)]
+pub struct Viewer {
+    number: u32,
+    ghost low: { 1 ≤ number },
+    ghost high: { number ≤ 9999 },
+}
+
+impl Viewer {
+    pub fn new(number: i32) -> Result<Viewer, Fault>
+        ensures { λ r. ⌜ Cases r (λ v. viewer-number number ≡ Ok (v .number)) (λ f. viewer-number number ≡ Err f) ⌝ }
+    {
+        let number = checked(number, 1, 9_999, Refusal::ViewerOutOfRange)?;
+        Ok(Viewer { number })
+    }
+
+    pub fn number(self) -> u32
+        ensures { λ r. ⌜ r ≡ self .number ⌝ }
+    {
+        self.number
+    }
+}
+
+// A day, counted from 1 January 1970: 0 to 99,999.
+#[derive(Clone, Copy, PartialEq, Eq, Debug)]
+pub struct Day {
+    number: u32,
+    ghost high: { number ≤ 99999 },
+}
+
+impl Day {
+    pub fn new(number: i32) -> Result<Day, Fault>
+        ensures { λ r. ⌜ Cases r (λ d. day-number number ≡ Ok (d .number)) (λ f. day-number number ≡ Err f) ⌝ }
+    {
+        let number = checked(number, 0, 99_999, Refusal::DayOutOfRange)?;
+        Ok(Day { number })
+    }
+
+    pub fn number(self) -> u32
+        ensures { λ r. ⌜ r ≡ self .number ⌝ }
+    {
+        self.number
+    }
+}
