@@ -10,8 +10,8 @@ use lib.Bits.{bitAnd, bitOr, and-shr, or-shr, and-mod, or-mod, or-shifted-r, or-
 use lib.Dec.{eqb, ltb}
 use lib.Pow.{pow-pos, pow-mono, pow-add}
 use Rattle.std.proofs.shelf.Bits.{shl-shr, shr-split, mod-below, div-below, field-of, mod-pow-add, pow-below}
-use Rattle.std.proofs.shelf.Tests.{eq-eqb, ne-eqb, lt-ltb, le-ltb, cases-order, true≢false, false≢true}
-use Rattle.labels.specs.Choices.{has, word-of}
+use Rattle.std.proofs.shelf.Tests.{eq-eqb, ne-eqb, lt-ltb, le-ltb, cases-order, cond-true, true≢false, false≢true}
+use Rattle.labels.specs.Choices.{has, with-label, word-of}
 
 -- one digit of a word
 abbrev digit : ℕ → ℕ → ℕ
@@ -130,6 +130,10 @@ word-of-small (suc n) p = go (p n) (word-of-small n p)
     go true h = omega (arith, pow-suc 2 n)
     go false h = omega (arith, pow-suc 2 n)
 
+-- its next digit stands above it
+word-and-top : (n : ℕ) (p : ℕ → Bool) → word-of n p + 2 ^ n ≡ bitOr (word-of n p) (2 ^ n)
+word-and-top n p = sym (ap (bitOr (word-of n p)) (sym (one-mul (2 ^ n))) ∙ or-shifted-r 1 n (word-of n p) (word-of-small n p) ∙ omega arith)
+
 -- and has the labels where the test passes
 pub has-word-of : (n : ℕ) (p : ℕ → Bool) (l : ℕ) → has (word-of n p) l ≡ (ltb l n && p l)
 unfolding word-of
@@ -140,7 +144,7 @@ has-word-of (suc n) p l = ap (λ w. has w l) joined ∙ has-or (word-of n p) (co
     joined = go (p n)
       where
         go : (b : Bool) → word-of n p + cond b (2 ^ n) 0 ≡ bitOr (word-of n p) (cond b (2 ^ n) 0)
-        go true = sym (ap (bitOr (word-of n p)) (sym (one-mul (2 ^ n))) ∙ or-shifted-r 1 n (word-of n p) (word-of-small n p) ∙ omega arith)
+        go true = word-and-top n p
         go false = add-zero (word-of n p) ∙ sym (or-zero-r (word-of n p))
 
     top-label : (b : Bool) → has (cond b (2 ^ n) 0) l ≡ (eqb n l && b)
@@ -154,3 +158,15 @@ has-word-of (suc n) p l = ap (λ w. has w l) joined ∙ has-or (word-of n p) (co
         ap₂ (λ a b. a && p l || (b && p n)) (lt-ltb l n h) (ne-eqb n l (λ e. omega arith)) ∙ or-false (p l) ∙ sym (ap (λ a. a && p l) (lt-ltb l (suc n) (omega arith)))
     one-more (inr (inr h)) =
         ap₂ (λ a b. a && p l || (b && p n)) (le-ltb l n (omega arith)) (ne-eqb n l (λ e. omega arith)) ∙ sym (ap (λ a. a && p l) (le-ltb l (suc n) h))
+
+-- a test that passes at n adds the label n to the word, and one that fails adds nothing
+pub word-of-more : (n : ℕ) (p : ℕ → Bool) → n < 64 → p n ≡ true → with-label (word-of n p) n ≡ word-of (n + 1) p
+unfolding word-of
+word-of-more n p h e =
+    cond-true (ltb n 64) (bitOr (word-of n p) (2 ^ n)) (word-of n p) (lt-ltb n 64 h)
+    ∙ sym (word-and-top n p)
+    ∙ sym (ap (λ m. word-of m p) (add-one n) ∙ ap (λ b. word-of n p + cond b (2 ^ n) 0) e)
+
+pub word-of-same : (n : ℕ) (p : ℕ → Bool) → p n ≡ false → word-of n p ≡ word-of (n + 1) p
+unfolding word-of
+word-of-same n p e = sym (ap (λ m. word-of m p) (add-one n) ∙ ap (λ b. word-of n p + cond b (2 ^ n) 0) e ∙ add-zero (word-of n p))

@@ -2,6 +2,7 @@ pub mod Choices
 pub mod Conjunctions
 pub mod Faults
 pub mod Guards
+pub mod Lists
 pub mod Literals
 pub mod Paths
 pub mod Tables

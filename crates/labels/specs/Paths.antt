@@ -1,7 +1,7 @@
 -- Paths: up to eight literals that hold together. Assumes nothing.
-use Prim.Native.Nat.{ℕ, _<_}
-use mathlib.Core.Bool.{Bool, true, cond, _&&_}
-use mathlib.Core.List.{List, [], _∷_, _++_}
+use Prim.Native.Nat.{ℕ}
+use mathlib.Core.Bool.{Bool, cond}
+use mathlib.Core.List.{List}
 use lib.Dec.{ltb}
 use lib.ListN.{length, take}
 use Rattle.std.specs.declared.result.Result.{Result}
@@ -11,7 +11,8 @@ use Rattle.labels.specs.declared.faults.Refusal.the-variants.{CountOutOfLimits
 use Rattle.labels.specs.declared.literals.Literal.{Literal}
 use Rattle.labels.specs.declared.paths.Path.{Path}
 use Rattle.labels.specs.Faults.{fault}
-use Rattle.labels.specs.Guards.{everything, literal-guard, meet}
+use Rattle.labels.specs.Guards.{literal-guard}
+use Rattle.labels.specs.Lists.{all}
 use Rattle.labels.specs.Literals.{holds}
 
 -- the literals of a path, in order
@@ -20,18 +21,15 @@ literals path = take (path .len) (path .literals)
 
 -- a path holds where all of its literals hold
 abbrev pub path-holds : List Literal → ℕ → Bool
-path-holds [] choice = true
-path-holds (l ∷ ls) choice = holds l choice && path-holds ls choice
+path-holds path choice = all (λ l. holds l choice) path
 
--- the guard of a path: the meet of its literals' guards
+-- the guard of a path is the meet of its literals' guards: it admits what they all admit
 abbrev pub path-guard : ℕ → List Literal → ℕ → Bool
-path-guard known [] = everything
-path-guard known (l ∷ ls) = meet (literal-guard known l) (path-guard known ls)
+path-guard known path choice = all (λ l. literal-guard known l choice) path
 
 -- each label of the path is known
-abbrev pub All-known : ℕ → List Literal → Type 0
-All-known known [] = Unit {0}
-All-known known (l ∷ ls) = (l .label < known) × All-known known ls
+abbrev pub all-known : ℕ → List Literal → Bool
+all-known known path = all (λ l. ltb (l .label) known) path
 
 -- a path takes a literal more while it has fewer than eight
 abbrev pub room : List Literal → Result (Unit {0}) Fault

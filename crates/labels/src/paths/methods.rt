@@ -1,8 +1,9 @@
 // What a path offers.
 ghost use mathlib.Core.Path.{_≡_};
+ghost use mathlib.Core.Bool.{true};
 ghost use mathlib.Core.List.{[], _∷_, _++_};
 ghost use Rattle.std.specs.Results.{Cases};
-ghost use Rattle.labels.specs.Paths.{literals, path-holds, path-guard, All-known, room};
+ghost use Rattle.labels.specs.Paths.{literals, path-holds, path-guard, all-known, room};
 use crate::choices::Choice;
 use crate::faults::Fault;
 use crate::faults::Refusal;
@@ -67,7 +68,7 @@ impl Path {
     // path holds.
     pub fn guard<G: Guard>(&self) -> G
         ensures admitted { λ r. ⌜ admitted r ≡ path-guard known (literals (now (self .entry))) ⌝ }
-        ensures holds { λ r. ⌜ (All-known known (literals (now (self .entry))) → admitted r ≡ path-holds (literals (now (self .entry)))) ⌝ }
+        ensures holds { λ r. ⌜ (all-known known (literals (now (self .entry))) ≡ true → admitted r ≡ path-holds (literals (now (self .entry)))) ⌝ }
     {
         let literals = self.as_slice();
         let mut guard = G::everything();
