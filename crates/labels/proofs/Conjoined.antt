@@ -9,9 +9,9 @@ use lib.Bits.{bitAnd, bitOr, and-le-r, and-lt, and-zero-l, and-zero-r}
 use lib.Dec.{eqb, ltb}
 use lib.Pow.{pow-pos}
 use Rattle.std.specs.Orderings.{Decides}
-use Rattle.std.proofs.shelf.Tests.{eqb-true, eqb-false, eq-eqb, ne-eqb, and-parts, and-from, or-cases, cases-lt, both-ways, lt-ltb, le-ltb, cond-true, cond-false}
+use Rattle.std.proofs.shelf.Tests.{eqb-true, eqb-false, eq-eqb, ne-eqb, and-parts, and-from, or-cases, cases-lt, both-ways, lt-ltb, le-ltb, cond-true, cond-false, false≢true}
 use Rattle.labels.specs.Choices.{has, every-label, some-choice}
-use Rattle.labels.specs.Conjunctions.{Words, words, implies, as-asked, conjunction-admits, full, empty-words, settle, literal-words, one-label}
+use Rattle.labels.specs.Conjunctions.{Words, words, implies, as-asked, conjunction-admits, full, empty-words, settle, settled, literal-words, one-label}
 use Rattle.labels.specs.Guards.{everything, literal-guard, meet, empty, Ignores-from}
 use Rattle.labels.specs.Literals.{signed, holds}
 use Rattle.labels.specs.declared.literals.Literal.{Literal}
@@ -216,3 +216,13 @@ literal-admits literal = fun-ext (λ c. ⊎-elim (below c) (above c) (cases-lt (
 pub settle-one : (s : Sign) (l : ℕ) → settle (one-label s l .required) (one-label s l .excluded) ≡ one-label s l
 settle-one Plus l = ap (λ n. cond (eqb n 0) (words (2 ^ l) 0) empty-words) (and-zero-r (2 ^ l))
 settle-one Minus l = ap (λ n. cond (eqb n 0) (words 0 (2 ^ l)) empty-words) (and-zero-l (2 ^ l))
+
+-- a settled guard that is empty is the one empty guard
+pub one-empty : (r x : ℕ) → settled r x ≡ true → not (eqb (bitAnd r x) 0) ≡ true → words r x ≡ empty-words
+one-empty r x s e = go (eqb (bitAnd r x) 0) s e
+  where
+    go : (b : Bool) → (b || eqb r full && eqb x full) ≡ true → not b ≡ true → words r x ≡ empty-words
+    go true t n = absurd (false≢true n)
+    go false t n =
+        let both = and-parts (eqb r full) (eqb x full) t in
+        ap₂ words (eqb-true r full (both .0)) (eqb-true x full (both .1))

@@ -2,5 +2,6 @@ pub mod Along
 pub mod Conjoined
 pub mod Searched
 pub mod Tabled
+pub mod Told
 pub mod Walked
 pub mod Words

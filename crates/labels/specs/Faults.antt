@@ -1,5 +1,8 @@
 -- What each refusal is: the number that users see, and the layer that tells it. Assumes nothing.
 use Prim.Native.Nat.{ℕ}
+use mathlib.Core.List.{List, _++_}
+use lib.Chars.{codes}
+use Rattle.std.specs.Written.{decimal}
 use Rattle.labels.specs.declared.faults.Fault.{Fault}
 use Rattle.labels.specs.declared.faults.Layer.{Layer}
 use Rattle.labels.specs.declared.faults.Layer.the-variants.{Text, Statement, Store}
@@ -59,3 +62,7 @@ code StoreNotEmpty = coded 52 Store
 -- a refusal told outside a script: line 0
 abbrev pub fault : Refusal → ℕ → Fault
 fault refusal place = record { refusal = refusal; line = 0; place = place }
+
+-- a fault in words
+abbrev pub told : Fault → List ℕ
+told f = codes "refusal " ++ (decimal (code (f .refusal) .number) ++ (codes " at place " ++ decimal (f .place)))

@@ -2,7 +2,7 @@
 ghost use mathlib.Core.Path.{_≡_};
 ghost use mathlib.Core.Bool.{true};
 ghost use Rattle.labels.specs.Conjunctions.{conjunction-admits, settled, settle, words, literal-words, meet-words, empty-words};
-ghost use Rattle.labels.specs.Guards.{everything, literal-guard, meet};
+ghost use Rattle.labels.specs.Guards.{everything, literal-guard, meet, empty};
 use crate::choices::Choice;
 use crate::guards::Guard;
 use crate::literals::Literal;
@@ -93,7 +93,10 @@ pub impl Guard for Conjunction as ConjunctionGuard {
         (labels & self.required == self.required) & (labels & self.excluded == 0)
     }
 
-    fn is_empty(self) -> bool {
+    fn is_empty(self) -> bool
+        ensures admitted { λ r. ⌜ r ≡ empty (conjunction-admits (self .required) (self .excluded)) ⌝ }
+        ensures one { λ r. ⌜ (r ≡ true → words (self .required) (self .excluded) ≡ empty-words) ⌝ }
+    {
         self.required & self.excluded != 0
     }
 }

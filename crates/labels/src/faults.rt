@@ -1,7 +1,11 @@
 // What a call answers when it turns its caller back: which refusal, on which line, at which place.
 ghost use mathlib.Core.Path.{_≡_};
 ghost use Prim.Native.Nat.{ℕ};
-ghost use Rattle.labels.specs.Faults.{code, fault};
+ghost use Rattle.std.specs.Orderings.{Decides};
+ghost use Rattle.std.specs.declared.option.Option.the-variants.{Some};
+ghost use Rattle.labels.specs.Faults.{code, fault, told};
+use std::error::Error;
+use std::fmt;
 
 // The part of the engine that a fault is told by.
 #[derive(Clone, Copy, PartialEq, Eq, Debug)]
@@ -12,7 +16,7 @@ pub enum Layer {
 }
 
 // Why a call was turned back. The discriminants are the numbers that users see.
-#[derive(Clone, Copy, PartialEq, Eq, Debug)]
+#[derive(Clone, Copy, Eq, Debug)]
 pub enum Refusal {
     WordNotAllowed = 11,
     NotANumber = 12,
@@ -71,6 +75,14 @@ impl Refusal {
     }
 }
 
+pub impl PartialEq<Refusal> for Refusal as RefusalPartialEq {
+    ghost equals = { λ a b r. Decides r (a ≡ b) };
+
+    fn eq(&self, other: &Refusal) -> bool {
+        self.number() == other.number()
+    }
+}
+
 // A refusal with where it was met: the script's line, from 1 (0 outside a script), and the place
 // that the refusal speaks of.
 #[derive(Clone, Copy, PartialEq, Eq, Debug)]
@@ -111,3 +123,15 @@ impl Fault {
         self.refusal.layer()
     }
 }
+
+pub impl fmt::Display for Fault as FaultDisplay {
+    ghost shown = { λ f. Some (told f) };
+
+    fn fmt<W: fmt::Write>(&self, f: &mut fmt::Formatter<W>) -> fmt::Result {
+        let number = self.number();
+        let place = self.place;
+        write!(f, "refusal {number} at place {place}")
+    }
+}
+
+pub impl Error for Fault as FaultError {}

@@ -1,14 +1,11 @@
 // Passes: what one viewer may see on one day, for one asking.
 ghost use mathlib.Core.Path.{_≡_};
-ghost use mathlib.Core.Bool.{_&&_};
 ghost use Prim.Native.Nat.{ℕ};
-ghost use lib.Dec.{ltb};
 ghost use lib.IntN.{pos};
 ghost use Rattle.std.specs.Results.{Cases};
 ghost use Rattle.std.specs.Vec.{made};
 ghost use Rattle.std.specs.declared.result.Result.the-variants.{Ok, Err};
-ghost use Rattle.labels.specs.Choices.{has};
-ghost use Rattle.policies.specs.Passes.{choice-for, resolved};
+ghost use Rattle.policies.specs.Passes.{choice-for, resolved, Exactly};
 use crate::questions::Policy;
 use crate::ranges::Day;
 use crate::ranges::Viewer;
@@ -41,7 +38,8 @@ fn choice_for<G: Guard, P: Policy>(policy: &P, viewer: Viewer, day: Day) -> Choi
 impl<G: Guard> Pass<G> {
     // Asks the policy about each label that the guard kind knows.
     pub fn resolve<P: Policy>(policy: &P, viewer: i32, day: i32) -> Result<Pass<G>, Fault>
-        ensures { λ r. ⌜ Cases r (λ p. resolved known (says (now (policy .entry))) viewer day ≡ Ok (p .choice .bits)) (λ f. resolved known (says (now (policy .entry))) viewer day ≡ Err f) ⌝ }
+        ensures value { λ r. ⌜ Cases r (λ p. resolved known (says (now (policy .entry))) viewer day ≡ Ok (p .choice .bits)) (λ f. resolved known (says (now (policy .entry))) viewer day ≡ Err f) ⌝ }
+        ensures labels { λ r. ⌜ made r (λ p. (v d : ℕ) → viewer ≡ pos v → day ≡ pos d → Exactly known (says (now (policy .entry))) v d (p .choice .bits)) ⌝ }
     {
         let viewer = Viewer::new(viewer)?;
         let day = Day::new(day)?;

@@ -1,6 +1,11 @@
 use borrow.Author.Needs.{needs}
-use Rattle.labels.proofs.Conjoined.{empty-by-words}
+use Rattle.labels.proofs.Conjoined.{empty-by-words, one-empty}
 use Rattle.labels.proofs.conjunctions.ConjunctionGuard.is_empty.Needs as need
 
 pub returns : need.returns
-returns c = empty-by-words (c .args .self .required) (c .args .self .excluded) (search needs) (search needs)
+returns c =
+    let g = c .args .self in
+    record {
+      admitted = empty-by-words (g .required) (g .excluded) (search needs) (search needs);
+      one = one-empty (g .required) (g .excluded) (g .«one_empty»);
+    }
