@@ -9,7 +9,12 @@ pub mod truth_tables;
 
 pub use choices::Choice;
 pub use conjunctions::Conjunction;
+pub use conjunctions::ConjunctionGuard;
 pub use faults::Fault;
+pub use faults::FaultDebug;
+pub use faults::FaultDisplay;
+pub use faults::FaultError;
+pub use faults::FaultPartialEq;
 pub use faults::Layer;
 pub use faults::Refusal;
 pub use guards::Guard;
@@ -17,3 +22,4 @@ pub use literals::Literal;
 pub use literals::Sign;
 pub use paths::Path;
 pub use truth_tables::TruthTable;
+pub use truth_tables::TruthTableGuard;
