@@ -5,7 +5,7 @@ use lib.Dec.{ltb}
 use lib.IntN.{ℤ, negsuc}
 use Rattle.std.specs.declared.result.Result.{Result}
 use Rattle.std.specs.declared.result.Result.the-variants.{Ok}
-use Rattle.labels.specs.declared.faults.Fault.{Fault}
+use Rattle.faults.specs.declared.Fault.{Fault}
 use Rattle.policies.specs.Ranges.{viewer-number, day-number, then}
 use Rattle.fozhyral.specs.declared.readings.Shown.{Shown}
 use Rattle.fozhyral.specs.declared.readings.Shown.the-variants.{Measured, StandIn, Nothing}

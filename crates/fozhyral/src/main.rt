@@ -4,10 +4,10 @@
 mod readings;
 
 use cases::worked_cases;
+use faults::FaultDisplay;
+use faults::FaultError;
 use labels::Conjunction;
 use labels::ConjunctionGuard;
-use labels::FaultDisplay;
-use labels::FaultError;
 use labels::Guard;
 use labels::TruthTable;
 use labels::TruthTableGuard;

@@ -3,7 +3,7 @@ ghost use mathlib.Core.Path.{_≡_};
 ghost use Rattle.labels.specs.Guards.{literal-guard};
 ghost use Rattle.labels.specs.Literals.{plus, minus};
 ghost use Rattle.fozhyral.specs.Readings.{null, shown-at, tight-shown};
-use labels::Fault;
+use faults::Fault;
 use labels::Guard;
 use labels::Literal;
 use policies::Pass;

@@ -10,10 +10,10 @@ use lib.ListN.{length, getD, take}
 use Rattle.std.specs.declared.result.Result.{Result}
 use Rattle.std.specs.declared.result.Result.the-variants.{Ok, Err}
 use Rattle.std.proofs.shelf.Tests.{le-ltb, cases-lt, cond-false, and-parts}
-use Rattle.labels.specs.declared.faults.Fault.{Fault}
-use Rattle.labels.specs.declared.faults.Refusal.the-variants.{CountOutOfLimits}
+use Rattle.faults.specs.declared.Fault.{Fault}
+use Rattle.faults.specs.declared.Refusal.the-variants.{CountOutOfLimits}
 use Rattle.labels.specs.declared.literals.Literal.{Literal}
-use Rattle.labels.specs.Faults.{fault}
+use Rattle.faults.specs.Faults.{fault}
 use Rattle.labels.specs.Guards.{literal-guard, meet}
 use Rattle.labels.specs.Lists.{all}
 use Rattle.labels.specs.Literals.{holds}
@@ -31,8 +31,9 @@ path-guard-holds n ls known = fun-ext (λ c. each c ls known)
         ap₂ (λ a b. a && holds l c && b) (parts .0) (each c ms (parts .1))
 
 -- one turn of a walk that gathers the guard
-pub guard-turn : (n : ℕ) (ls : List Literal) (i : ℕ) (d : Literal) (f g h : ℕ → Bool) → i < length ls → f ≡ path-guard n (take i ls) → g ≡ literal-guard n (getD ls i d) → h ≡ meet f g → h ≡ path-guard n (take (i + 1) ls)
-guard-turn n ls i d f g h within before here met = met ∙ ap₂ meet before here ∙ fun-ext (λ c. sym (all-more (λ l. literal-guard n l c) ls i d within))
+pub guard-turn : (n : ℕ) (ls : List Literal) (i : ℕ) (d : Literal) (f g : ℕ → Bool) → i < length ls → f ≡ path-guard n (take i ls) → g ≡ meet f (literal-guard n (getD ls i d)) → g ≡ path-guard n (take (i + 1) ls)
+guard-turn n ls i d f g within before met =
+    met ∙ ap (λ h. meet h (literal-guard n (getD ls i d))) before ∙ fun-ext (λ c. sym (all-more (λ l. literal-guard n l c) ls i d within))
 
 -- a path whose room was not refused has room
 pub room-left : (ls : List Literal) → Ok tt ≡ room ls → length ls < 8

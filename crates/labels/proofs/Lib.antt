@@ -2,6 +2,5 @@ pub mod Along
 pub mod Conjoined
 pub mod Searched
 pub mod Tabled
-pub mod Told
 pub mod Walked
 pub mod Words

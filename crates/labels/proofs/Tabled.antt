@@ -1,22 +1,21 @@
 -- The table kind: what its word admits. Assumes nothing.
 use mathlib.Core.Path.{_≡_, refl, sym, ap, ap₂, _∙_, fun-ext}
-use mathlib.Core.Bool.{Bool, true, false, not, _&&_}
-use Prim.Native.Nat.{ℕ, zero, suc, _-_, _^_, _%_, _<_, _≤_}
+use mathlib.Core.Bool.{Bool, true, false, not, cond, _&&_}
+use mathlib.Core.Logic.{⊎-elim}
+use Prim.Native.Nat.{ℕ, _-_, _^_, _%_, _<_, _≤_}
 use native.Mathlib.Omega.{arith}
 use lib.Bits.{bitAnd}
 use lib.Dec.{eqb, ltb}
-use lib.ListN.{getD}
-use mathlib.Core.List.{List, [], _∷_}
 use lib.Pow.{pow-pos}
 use Rattle.std.proofs.shelf.Bits.{mod-below}
-use Rattle.std.proofs.shelf.Tests.{eqb-true, eq-eqb, lt-ltb, le-ltb, not-false, both-ways}
+use Rattle.std.proofs.shelf.Tests.{eqb-true, eq-eqb, lt-ltb, le-ltb, cases-lt, both-ways}
 use Rattle.labels.specs.declared.literals.Literal.{Literal}
 use Rattle.labels.specs.declared.literals.Sign.{Sign}
 use Rattle.labels.specs.declared.literals.Sign.the-variants.{Plus, Minus}
 use Rattle.labels.specs.Choices.{has, word-of, all-below, some-choice}
 use Rattle.labels.specs.Guards.{everything, literal-guard, meet, empty, Ignores-from}
 use Rattle.labels.specs.Literals.{signed, holds}
-use Rattle.labels.specs.Tables.{table-admits, table-word}
+use Rattle.labels.specs.Tables.{table-admits, table-word, signed-word, literal-word}
 use Rattle.labels.proofs.Searched.{same-truth, never-true, all-below-each, some-choice-by, no-choice}
 use Rattle.labels.proofs.Words.{has-and, has-zero, has-mod, has-word-of, word-of-small, same-word}
 
@@ -50,34 +49,34 @@ all-admitted = fun-ext (λ c. ap (λ w. table-admits w c) ones ∙ word-admits e
 pub meet-admits : (w v : ℕ) → table-admits (bitAnd w v) ≡ meet (table-admits w) (table-admits v)
 meet-admits w v = fun-ext (λ c. has-and w v (c % 64))
 
-pub none-admitted : (literal : Literal) → 6 ≤ literal .label → table-admits 0 ≡ literal-guard 6 literal
-none-admitted literal h = fun-ext (λ c. has-zero (c % 64) ∙ sym (ap (λ b. b && holds literal c) (le-ltb (literal .label) 6 h)))
-
--- the words of the six labels
-abbrev pub with-label : List ℕ
-with-label = 0xAAAAAAAAAAAAAAAA ∷ 0xCCCCCCCCCCCCCCCC ∷ 0xF0F0F0F0F0F0F0F0 ∷ 0xFF00FF00FF00FF00 ∷ 0xFFFF0000FFFF0000 ∷ 0xFFFFFFFF00000000 ∷ []
-
--- a literal's word: that of its label, or what that leaves
-abbrev pub signed-word : Sign → ℕ → ℕ
-signed-word Plus w = w
-signed-word Minus w = 2 ^ 64 - 1 - w
-
 -- the words are right at each of the six labels, with either sign
-words-right : (s : Sign) → all-below 6 (λ l. eqb (signed-word s (getD with-label l 0)) (table-word (λ c. signed s (has c l)))) ≡ true
+words-right : (s : Sign) → all-below 6 (λ l. eqb (signed-word s l) (table-word (λ c. signed s (has c l)))) ≡ true
 unfolding word-of has
 words-right Plus = refl
 words-right Minus = refl
 
-label-word : (s : Sign) (l : ℕ) → l < 6 → signed-word s (getD with-label l 0) ≡ table-word (λ c. signed s (has c l))
-label-word s l h = eqb-true (signed-word s (getD with-label l 0)) (table-word (λ c. signed s (has c l))) (all-below-each 6 (λ k. eqb (signed-word s (getD with-label k 0)) (table-word (λ c. signed s (has c k)))) (words-right s) l h)
+label-word : (s : Sign) (l : ℕ) → l < 6 → signed-word s l ≡ table-word (λ c. signed s (has c l))
+label-word s l h = eqb-true (signed-word s l) (table-word (λ c. signed s (has c l))) (all-below-each 6 (λ k. eqb (signed-word s k) (table-word (λ c. signed s (has c k)))) (words-right s) l h)
 
-pub label-admits : (literal : Literal) (s : Sign) → literal .sign ≡ s → literal .label < 6 → table-admits (signed-word s (getD with-label (literal .label) 0)) ≡ literal-guard 6 literal
-label-admits literal s is h =
-    fun-ext
-    (λ c. ap (λ w. table-admits w c) (label-word s (literal .label) h)
-    ∙ word-admits (λ d. signed s (has d (literal .label))) c
-    ∙ ap₂ signed (sym is) (has-mod c 6 (literal .label) h)
-    ∙ sym (ap (λ b. b && holds literal c) (lt-ltb (literal .label) 6 h)))
+-- a literal's word admits what its guard admits
+pub literal-admits : (literal : Literal) → table-admits (literal-word literal) ≡ literal-guard 6 literal
+literal-admits literal = fun-ext (λ c. ⊎-elim (below c) (above c) (cases-lt (literal .label) 6))
+  where
+    below : (c : ℕ) → literal .label < 6 → table-admits (literal-word literal) c ≡ literal-guard 6 literal c
+    below c h =
+        let s = literal .sign in
+        let l = literal .label in
+        ap (λ b. table-admits (cond b (signed-word s l) 0) c) (lt-ltb l 6 h)
+        ∙ ap (λ w. table-admits w c) (label-word s l h)
+        ∙ word-admits (λ d. signed s (has d l)) c
+        ∙ ap (signed s) (has-mod c 6 l h)
+        ∙ sym (ap (λ b. b && holds literal c) (lt-ltb l 6 h))
+
+    above : (c : ℕ) → 6 ≤ literal .label → table-admits (literal-word literal) c ≡ literal-guard 6 literal c
+    above c h =
+        ap (λ b. table-admits (cond b (signed-word (literal .sign) (literal .label)) 0) c) (le-ltb (literal .label) 6 h)
+        ∙ has-zero (c % 64)
+        ∙ sym (ap (λ b. b && holds literal c) (le-ltb (literal .label) 6 h))
 
 pub empty-by-word : (w : ℕ) → w < 2 ^ 64 → eqb w 0 ≡ empty (table-admits w)
 empty-by-word w h = same-truth (eqb w 0) (empty (table-admits w)) to from

@@ -160,13 +160,16 @@ has-word-of (suc n) p l = ap (λ w. has w l) joined ∙ has-or (word-of n p) (co
         ap₂ (λ a b. a && p l || (b && p n)) (le-ltb l n (omega arith)) (ne-eqb n l (λ e. omega arith)) ∙ sym (ap (λ a. a && p l) (le-ltb l (suc n) h))
 
 -- a test that passes at n adds the label n to the word, and one that fails adds nothing
-pub word-of-more : (n : ℕ) (p : ℕ → Bool) → n < 64 → p n ≡ true → with-label (word-of n p) n ≡ word-of (n + 1) p
+pub word-of-more : (n : ℕ) (p : ℕ → Bool) (w v : ℕ) → n < 64 → true ≡ p n → w ≡ word-of n p → v ≡ with-label w n → v ≡ word-of (n + 1) p
 unfolding word-of
-word-of-more n p h e =
-    cond-true (ltb n 64) (bitOr (word-of n p) (2 ^ n)) (word-of n p) (lt-ltb n 64 h)
+word-of-more n p w v few passes before after =
+    after
+    ∙ cond-true (ltb n 64) (bitOr w (2 ^ n)) w (lt-ltb n 64 few)
+    ∙ ap (λ m. bitOr m (2 ^ n)) before
     ∙ sym (word-and-top n p)
-    ∙ sym (ap (λ m. word-of m p) (add-one n) ∙ ap (λ b. word-of n p + cond b (2 ^ n) 0) e)
+    ∙ sym (ap (λ m. word-of m p) (add-one n) ∙ ap (λ b. word-of n p + cond b (2 ^ n) 0) (sym passes))
 
-pub word-of-same : (n : ℕ) (p : ℕ → Bool) → p n ≡ false → word-of n p ≡ word-of (n + 1) p
+pub word-of-same : (n : ℕ) (p : ℕ → Bool) (w : ℕ) → false ≡ p n → w ≡ word-of n p → w ≡ word-of (n + 1) p
 unfolding word-of
-word-of-same n p e = sym (ap (λ m. word-of m p) (add-one n) ∙ ap (λ b. word-of n p + cond b (2 ^ n) 0) e ∙ add-zero (word-of n p))
+word-of-same n p w stays before =
+    before ∙ sym (ap (λ m. word-of m p) (add-one n) ∙ ap (λ b. word-of n p + cond b (2 ^ n) 0) (sym stays) ∙ add-zero (word-of n p))

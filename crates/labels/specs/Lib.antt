@@ -1,6 +1,5 @@
 pub mod Choices
 pub mod Conjunctions
-pub mod Faults
 pub mod Guards
 pub mod Lists
 pub mod Literals

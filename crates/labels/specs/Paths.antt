@@ -6,11 +6,11 @@ use lib.Dec.{ltb}
 use lib.ListN.{length, take}
 use Rattle.std.specs.declared.result.Result.{Result}
 use Rattle.std.specs.declared.result.Result.the-variants.{Ok, Err}
-use Rattle.labels.specs.declared.faults.Fault.{Fault}
-use Rattle.labels.specs.declared.faults.Refusal.the-variants.{CountOutOfLimits}
+use Rattle.faults.specs.declared.Fault.{Fault}
+use Rattle.faults.specs.declared.Refusal.the-variants.{CountOutOfLimits}
 use Rattle.labels.specs.declared.literals.Literal.{Literal}
 use Rattle.labels.specs.declared.paths.Path.{Path}
-use Rattle.labels.specs.Faults.{fault}
+use Rattle.faults.specs.Faults.{fault}
 use Rattle.labels.specs.Guards.{literal-guard}
 use Rattle.labels.specs.Lists.{all}
 use Rattle.labels.specs.Literals.{holds}

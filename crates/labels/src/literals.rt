@@ -3,7 +3,6 @@ ghost use mathlib.Core.Path.{_≡_};
 ghost use mathlib.Core.Bool.{not};
 ghost use Prim.Native.Nat.{ℕ};
 ghost use Rattle.labels.specs.Literals.{holds, plus, minus, opposite};
-use crate::choices::Choice;
 
 #[derive(Clone, Copy, PartialEq, Eq, Debug)]
 pub enum Sign {
@@ -51,17 +50,6 @@ impl Literal {
         Literal {
             sign,
             label: self.label,
-        }
-    }
-
-    // Whether the literal holds at the choice.
-    pub fn holds(self, choice: Choice) -> bool
-        ensures { λ r. ⌜ r ≡ holds self (choice .bits) ⌝ }
-    {
-        let inside = choice.has(self.label);
-        match self.sign {
-            Sign::Plus => inside,
-            Sign::Minus => !inside,
         }
     }
 }

@@ -1,8 +1,12 @@
 // The table kind: whether each choice of six labels is admitted, bit by bit.
 ghost use mathlib.Core.Path.{_≡_};
+ghost use lib.Bits.{bitAnd};
+ghost use lib.Dec.{eqb};
+ghost use Prim.Native.Nat.{_^_, _-_};
 ghost use Rattle.labels.specs.Guards.{everything, literal-guard, meet};
-ghost use Rattle.labels.specs.Tables.{table-admits, table-word};
+ghost use Rattle.labels.specs.Tables.{table-admits, table-word, literal-word};
 use crate::choices::Choice;
+use crate::choices::bit;
 use crate::guards::Guard;
 use crate::literals::Literal;
 use crate::literals::Sign;
@@ -23,6 +27,46 @@ pub struct TruthTable {
     pub word: u64,
 }
 
+// The word, by plain contracts; what it admits is said below.
+impl TruthTable {
+    // Every bit is 1.
+    fn full() -> TruthTable
+        ensures { λ r. ⌜ r .word ≡ 2 ^ 64 - 1 ⌝ }
+    {
+        TruthTable { word: u64::MAX }
+    }
+
+    // The bits of the choices at which the literal holds.
+    fn of_holding(literal: Literal) -> TruthTable
+        ensures { λ r. ⌜ r .word ≡ literal-word literal ⌝ }
+    {
+        if literal.label >= 6 {
+            return TruthTable { word: 0 };
+        }
+        let with_label = WITH_LABEL[literal.label as usize];
+        match literal.sign {
+            Sign::Plus => TruthTable { word: with_label },
+            Sign::Minus => TruthTable { word: !with_label },
+        }
+    }
+
+    // The bits that are 1 in both.
+    fn common(self, other: TruthTable) -> TruthTable
+        ensures { λ r. ⌜ r .word ≡ bitAnd (self .word) (other .word) ⌝ }
+    {
+        TruthTable {
+            word: self.word & other.word,
+        }
+    }
+
+    // Whether no bit is 1.
+    fn is_clear(self) -> bool
+        ensures { λ r. ⌜ r ≡ eqb (self .word) 0 ⌝ }
+    {
+        self.word == 0
+    }
+}
+
 // It knows the six lowest labels.
 pub impl Guard for TruthTable as TruthTableGuard {
     ghost known = { 6 };
@@ -37,37 +81,28 @@ pub impl Guard for TruthTable as TruthTableGuard {
         ensures admitted { λ r. ⌜ table-admits (r .word) ≡ everything ⌝ }
         ensures value { λ r. ⌜ r .word ≡ table-word everything ⌝ }
     {
-        TruthTable { word: u64::MAX }
+        TruthTable::full()
     }
 
     fn of_literal(literal: Literal) -> TruthTable
         ensures admitted { λ r. ⌜ table-admits (r .word) ≡ literal-guard 6 literal ⌝ }
         ensures value { λ r. ⌜ r .word ≡ table-word (literal-guard 6 literal) ⌝ }
     {
-        if literal.label >= 6 {
-            return TruthTable { word: 0 };
-        }
-        let word = WITH_LABEL[literal.label as usize];
-        match literal.sign {
-            Sign::Plus => TruthTable { word },
-            Sign::Minus => TruthTable { word: !word },
-        }
+        TruthTable::of_holding(literal)
     }
 
     fn meet(self, other: TruthTable) -> TruthTable
         ensures admitted { λ r. ⌜ table-admits (r .word) ≡ meet (table-admits (self .word)) (table-admits (other .word)) ⌝ }
         ensures value { λ r. ⌜ r .word ≡ table-word (meet (table-admits (self .word)) (table-admits (other .word))) ⌝ }
     {
-        TruthTable {
-            word: self.word & other.word,
-        }
+        self.common(other)
     }
 
     fn admits(self, choice: Choice) -> bool {
-        (self.word >> (choice.bits % 64)) & 1 == 1
+        bit(self.word, (choice.bits % 64) as u32)
     }
 
     fn is_empty(self) -> bool {
-        self.word == 0
+        self.is_clear()
     }
 }

@@ -7,9 +7,9 @@ use lib.IntN.{ℤ}
 use lib.ListN.{length}
 use Rattle.std.specs.declared.result.Result.{Result}
 use Rattle.std.specs.declared.result.Result.the-variants.{Ok, Err}
-use Rattle.labels.specs.declared.faults.Fault.{Fault}
-use Rattle.labels.specs.declared.faults.Refusal.the-variants.{PartnersFull}
-use Rattle.labels.specs.Faults.{fault}
+use Rattle.faults.specs.declared.Fault.{Fault}
+use Rattle.faults.specs.declared.Refusal.the-variants.{PartnersFull}
+use Rattle.faults.specs.Faults.{fault}
 use Rattle.labels.specs.Lists.{any}
 use Rattle.policies.specs.declared.partners.Pair.{Pair}
 use Rattle.policies.specs.Ranges.{viewer-number, policy-label, then}

@@ -5,10 +5,10 @@ use lib.IntN.{ℤ, pos, negsuc}
 use lib.Signed.{leZ}
 use Rattle.std.specs.declared.result.Result.{Result}
 use Rattle.std.specs.declared.result.Result.the-variants.{Ok, Err}
-use Rattle.labels.specs.declared.faults.Fault.{Fault}
-use Rattle.labels.specs.declared.faults.Refusal.{Refusal}
-use Rattle.labels.specs.declared.faults.Refusal.the-variants.{UnknownLabel, ViewerOutOfRange, DayOutOfRange}
-use Rattle.labels.specs.Faults.{fault}
+use Rattle.faults.specs.declared.Fault.{Fault}
+use Rattle.faults.specs.declared.Refusal.{Refusal}
+use Rattle.faults.specs.declared.Refusal.the-variants.{UnknownLabel, ViewerOutOfRange, DayOutOfRange}
+use Rattle.faults.specs.Faults.{fault}
 
 -- a number as a natural; of negative ones nothing is used
 abbrev pub natural : ℤ → ℕ

@@ -7,7 +7,7 @@ use lib.IntN.{ℤ}
 use lib.ListN.{getD, set}
 use Rattle.std.specs.declared.result.Result.{Result}
 use Rattle.std.specs.declared.result.Result.the-variants.{Ok}
-use Rattle.labels.specs.declared.faults.Fault.{Fault}
+use Rattle.faults.specs.declared.Fault.{Fault}
 use Rattle.policies.specs.declared.releases.LabelRecord.{LabelRecord}
 use Rattle.policies.specs.Ranges.{release-day-number, policy-label, then}
 

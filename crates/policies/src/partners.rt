@@ -11,15 +11,15 @@ use crate::questions::Policy;
 use crate::ranges::Day;
 use crate::ranges::Viewer;
 use crate::ranges::checked;
-use labels::Fault;
-use labels::Refusal;
+use faults::Fault;
+use faults::Refusal;
 use std::alloc::AllocError;
 use std::alloc::Global;
 
 // How many pairs the list takes.
 pub const MOST_PAIRS: usize = 256;
 
-#[derive(Clone, Copy, PartialEq, Eq, Debug)]
+#[derive(Clone, Copy)]
 pub struct Pair {
     pub viewer: u32,
     pub label: u32,
@@ -27,7 +27,7 @@ pub struct Pair {
 
 impl Pair {
     // Whether this is the pair of the viewer and the label.
-    pub fn is(self, viewer: u32, label: u32) -> bool
+    fn is(self, viewer: u32, label: u32) -> bool
         ensures { λ r. ⌜ r ≡ pairs self viewer label ⌝ }
     {
         self.viewer == viewer && self.label == label
@@ -53,7 +53,7 @@ impl Partners {
     }
 
     // Whether the pair is listed.
-    pub fn lists(&self, viewer: u32, label: u32) -> bool
+    fn lists(&self, viewer: u32, label: u32) -> bool
         ensures { λ r. ⌜ r ≡ listed (vec-items (now (self .entry) .pairs)) viewer label ⌝ }
     {
         let pairs = self.pairs.as_slice();

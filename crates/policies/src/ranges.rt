@@ -4,11 +4,11 @@ ghost use Prim.Native.Nat.{_≤_};
 ghost use Rattle.std.specs.Results.{Cases};
 ghost use Rattle.std.specs.declared.result.Result.the-variants.{Ok, Err};
 ghost use Rattle.policies.specs.Ranges.{in-range, viewer-number, day-number};
-use labels::Fault;
-use labels::Refusal;
+use faults::Fault;
+use faults::Refusal;
 
 // The number, if it lies between the two bounds; else the refusal, at place 0.
-pub fn checked(n: i32, low: u32, high: u32, refusal: Refusal) -> Result<u32, Fault>
+pub(crate) fn checked(n: i32, low: u32, high: u32, refusal: Refusal) -> Result<u32, Fault>
     ensures { λ r. ⌜ r ≡ in-range low high refusal n ⌝ }
 {
     match u32::try_from(n) {

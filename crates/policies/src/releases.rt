@@ -8,14 +8,14 @@ use crate::questions::Policy;
 use crate::ranges::Day;
 use crate::ranges::Viewer;
 use crate::ranges::checked;
-use labels::Fault;
-use labels::Refusal;
+use faults::Fault;
+use faults::Refusal;
 
 // The day on which a label that was never set is released: after every day.
 pub const NEVER: u32 = 100_000;
 
 // A label's release day, and whether it was set.
-#[derive(Clone, Copy, PartialEq, Eq, Debug)]
+#[derive(Clone, Copy)]
 pub struct LabelRecord {
     pub day: u32,
     pub set: bool,
@@ -23,7 +23,7 @@ pub struct LabelRecord {
 
 impl LabelRecord {
     // The label's release day.
-    pub fn release_day(self) -> u32
+    fn release_day(self) -> u32
         ensures { λ r. ⌜ r ≡ day-of self ⌝ }
     {
         if self.set { self.day } else { NEVER }
@@ -31,7 +31,7 @@ impl LabelRecord {
 }
 
 // A record for each label below 64.
-#[derive(Clone, Copy, Debug)]
+#[derive(Clone, Copy)]
 pub struct Release {
     records: [LabelRecord; 64],
 }
@@ -59,9 +59,7 @@ impl Release {
         self.records[label as usize] = LabelRecord { day, set: true };
         Ok(())
     }
-}
 
-impl Release {
     // The label's release day; there is none for a label from 64 up.
     pub fn release_day(&self, label: u32) -> u32
         ensures { λ r. ⌜ r ≡ release-day (now (self .entry) .records) label ⌝ }

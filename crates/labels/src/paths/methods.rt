@@ -2,14 +2,23 @@
 ghost use mathlib.Core.Path.{_≡_};
 ghost use mathlib.Core.Bool.{true};
 ghost use mathlib.Core.List.{[], _∷_, _++_};
+ghost use Prim.Native.Nat.{_<_};
+ghost use lib.ListN.{length};
 ghost use Rattle.std.specs.Results.{Cases};
+ghost use Rattle.labels.specs.Guards.{literal-guard, meet};
 ghost use Rattle.labels.specs.Paths.{literals, path-holds, path-guard, all-known, room};
-use crate::choices::Choice;
-use crate::faults::Fault;
-use crate::faults::Refusal;
 use crate::guards::Guard;
 use crate::literals::Literal;
 use crate::paths::Path;
+use faults::Fault;
+use faults::Refusal;
+
+// The guard, for the choices at which the literal holds too.
+fn narrowed<G: Guard>(guard: G, literal: Literal) -> G
+    ensures { λ r. ⌜ admitted r ≡ meet (admitted guard) (literal-guard known literal) ⌝ }
+{
+    guard.meet(G::of_literal(literal))
+}
 
 impl Path {
     // The path with no literal, which holds at every choice.
@@ -46,22 +55,17 @@ impl Path {
         ensures after { λ r. ⌜ Cases r (λ _. literals (now (self .exit)) ≡ literals (now (self .entry)) ++ literal ∷ []) (λ _. now (self .exit) ≡ now (self .entry)) ⌝ }
     {
         self.check_room()?;
-        self.literals[self.len] = literal;
-        self.len += 1;
+        self.append(literal);
         Ok(())
     }
 
-    // Whether every literal holds at the choice.
-    pub fn holds(&self, choice: Choice) -> bool
-        ensures { λ r. ⌜ r ≡ path-holds (literals (now (self .entry))) (choice .bits) ⌝ }
+    // Adds a literal at the end, where there is room.
+    fn append(&mut self, literal: Literal)
+        requires { ⌜ length (literals (now self)) < 8 ⌝ }
+        ensures { λ _. ⌜ literals (now (self .exit)) ≡ literals (now (self .entry)) ++ literal ∷ [] ⌝ }
     {
-        let literals = self.as_slice();
-        for literal in literals {
-            if !literal.holds(choice) {
-                return false;
-            }
-        }
-        true
+        self.literals[self.len] = literal;
+        self.len += 1;
     }
 
     // The meet of the literals' guards. Where each label is known, it admits the choices at which the
@@ -73,7 +77,7 @@ impl Path {
         let literals = self.as_slice();
         let mut guard = G::everything();
         for literal in literals {
-            guard = guard.meet(G::of_literal(*literal));
+            guard = narrowed(guard, *literal);
         }
         guard
     }

@@ -1,3 +1,4 @@
+use mathlib.Core.Path.{sym, _∙_}
 use borrow.Author.Needs.{needs}
 use Rattle.labels.proofs.Conjoined.{empty-by-words, one-empty}
 use Rattle.labels.proofs.conjunctions.ConjunctionGuard.is_empty.Needs as need
@@ -5,7 +6,8 @@ use Rattle.labels.proofs.conjunctions.ConjunctionGuard.is_empty.Needs as need
 pub returns : need.returns
 returns c =
     let g = c .args .self in
+    let found = c .contradicts .ensures in
     record {
-      admitted = empty-by-words (g .required) (g .excluded) (search needs) (search needs);
-      one = one-empty (g .required) (g .excluded) (g .«one_empty»);
+      admitted = found ∙ empty-by-words (g .required) (g .excluded) (search needs) (search needs);
+      one = λ t. one-empty (g .required) (g .excluded) (g .«one_empty») (sym found ∙ t);
     }

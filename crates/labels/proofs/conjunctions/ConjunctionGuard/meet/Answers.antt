@@ -10,8 +10,8 @@ returns c =
     let b = c .args .other in
     record {
       admitted =
-          ap admits (c .of-words .ensures)
+          ap admits (c .joined .ensures)
           ∙ settle-admits (bitOr (a .required) (b .required)) (bitOr (a .excluded) (b .excluded)) (or-lt 64 (a .required) (b .required) (search needs) (search needs)) (or-lt 64 (a .excluded) (b .excluded) (search needs) (search needs))
           ∙ meet-admits (a .required) (a .excluded) (b .required) (b .excluded);
-      value = c .of-words .ensures;
+      value = c .joined .ensures;
     }

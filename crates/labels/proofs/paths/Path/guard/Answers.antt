@@ -5,8 +5,7 @@ use Rattle.labels.proofs.Along.{guard-turn, path-guard-holds}
 use Rattle.labels.proofs.paths.Path.guard.Needs as need
 
 pub loop-literal-again : need.loop-literal-again
-loop-literal-again g c =
-    guard-turn _ _ _ _ _ _ _ (c .loop-literal-test .taken) (c .loop-literal .inv) (c .of-literal .ensures) (c .meet-guard .ensures)
+loop-literal-again g c = guard-turn _ _ _ _ _ _ (c .loop-literal-test .taken) (c .loop-literal .inv) (c .narrowed-guard .ensures)
 
 pub returns : need.returns
 returns g c =

@@ -1,8 +1,11 @@
-use native.Mathlib.Omega.{arith}
-use Prim.Native.Nat.{_-_, _^_}
+use mathlib.Core.Path.{ap, _∙_}
+use borrow.Author.Needs.{needs}
 use Rattle.labels.specs.Guards.{everything}
+use Rattle.labels.specs.Tables.{table-admits}
 use Rattle.labels.proofs.Tabled.{all-admitted, word-by}
 use Rattle.labels.proofs.truth_tables.TruthTableGuard.everything.Needs as need
 
 pub returns : need.returns
-returns c = record { admitted = all-admitted; value = word-by (2 ^ 64 - 1) everything (omega arith) all-admitted }
+returns c =
+    let e = ap table-admits (c .full .ensures) ∙ all-admitted in
+    record { admitted = e; value = word-by (c .full .result .word) everything (search needs) e }

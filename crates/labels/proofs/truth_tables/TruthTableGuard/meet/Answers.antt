@@ -1,4 +1,4 @@
-use lib.Bits.{bitAnd, and-lt}
+use mathlib.Core.Path.{ap, _∙_}
 use borrow.Author.Needs.{needs}
 use Rattle.labels.specs.Guards.{meet}
 use Rattle.labels.specs.Tables.{table-admits}
@@ -9,5 +9,5 @@ pub returns : need.returns
 returns c =
     let w = c .args .self .word in
     let v = c .args .other .word in
-    let e = meet-admits w v in
-    record { admitted = e; value = word-by (bitAnd w v) (meet (table-admits w) (table-admits v)) (and-lt 64 w v (search needs) (search needs)) e }
+    let e = ap table-admits (c .common .ensures) ∙ meet-admits w v in
+    record { admitted = e; value = word-by (c .common .result .word) (meet (table-admits w) (table-admits v)) (search needs) e }

@@ -3,11 +3,11 @@ use Prim.Native.Nat.{ℕ}
 use mathlib.Core.List.{List, _++_}
 use lib.Chars.{codes}
 use Rattle.std.specs.Written.{decimal}
-use Rattle.labels.specs.declared.faults.Fault.{Fault}
-use Rattle.labels.specs.declared.faults.Layer.{Layer}
-use Rattle.labels.specs.declared.faults.Layer.the-variants.{Text, Statement, Store}
-use Rattle.labels.specs.declared.faults.Refusal.{Refusal}
-use Rattle.labels.specs.declared.faults.Refusal.the-variants.{
+use Rattle.faults.specs.declared.Fault.{Fault}
+use Rattle.faults.specs.declared.Layer.{Layer}
+use Rattle.faults.specs.declared.Layer.the-variants.{Text, Statement, Store}
+use Rattle.faults.specs.declared.Refusal.{Refusal}
+use Rattle.faults.specs.declared.Refusal.the-variants.{
   WordNotAllowed,
   NotANumber,
   WordsLeftOver,

@@ -3,8 +3,8 @@ use mathlib.Core.Path.{_≡_, refl, sym, ap, _∙_}
 use mathlib.Core.Bool.{cond}
 use Prim.Native.Nat.{ℕ}
 use lib.Dec.{eqb}
-use Rattle.labels.specs.declared.faults.Refusal.{Refusal}
-use Rattle.labels.specs.declared.faults.Refusal.the-variants.{
+use Rattle.faults.specs.declared.Refusal.{Refusal}
+use Rattle.faults.specs.declared.Refusal.the-variants.{
   WordNotAllowed,
   NotANumber,
   WordsLeftOver,
@@ -25,7 +25,7 @@ use Rattle.labels.specs.declared.faults.Refusal.the-variants.{
   PlaceOutOfRange,
   StoreNotEmpty,
 }
-use Rattle.labels.specs.Faults.{code}
+use Rattle.faults.specs.Faults.{code}
 
 -- the refusal of a number
 abbrev of-number : ℕ → Refusal

@@ -1,9 +1,9 @@
 // What a call answers when it turns its caller back: which refusal, on which line, at which place.
 ghost use mathlib.Core.Path.{_≡_};
-ghost use Prim.Native.Nat.{ℕ};
+ghost use lib.Dec.{eqb};
 ghost use Rattle.std.specs.Orderings.{Decides};
 ghost use Rattle.std.specs.declared.option.Option.the-variants.{Some};
-ghost use Rattle.labels.specs.Faults.{code, fault, told};
+ghost use Rattle.faults.specs.Faults.{code, fault, told};
 use std::error::Error;
 use std::fmt;
 
@@ -75,11 +75,19 @@ impl Refusal {
     }
 }
 
+// Whether the two have one number.
+fn same_number(a: Refusal, b: Refusal) -> bool
+    ensures { λ r. ⌜ r ≡ eqb (code a .number) (code b .number) ⌝ }
+{
+    a.number() == b.number()
+}
+
+// No two refusals have one number, so the numbers decide.
 pub impl PartialEq<Refusal> for Refusal as RefusalPartialEq {
     ghost equals = { λ a b r. Decides r (a ≡ b) };
 
     fn eq(&self, other: &Refusal) -> bool {
-        self.number() == other.number()
+        same_number(*self, *other)
     }
 }
 
