@@ -1,10 +1,10 @@
 -- The worked cases hold. Assumes nothing.
 use mathlib.Core.Path.{refl, ap}
 use mathlib.Core.Bool.{not}
-use Rattle.labels.specs.Choices.{has, word-of}
-use Rattle.labels.specs.Conjunctions.{conjunction-admits, full}
-use Rattle.labels.proofs.Conjoined.{full-empty}
-use Rattle.labels.proofs.Searched.{no-choice}
+use Rattle.words.specs.Bits.{has, word-of}
+use Rattle.guards.specs.Conjunctions.{conjunction-admits, full}
+use Rattle.guards.proofs.Conjoined.{full-empty}
+use Rattle.words.proofs.Searched.{no-choice}
 use Rattle.cases.specs.Worked.{Worked-cases}
 
 pub worked : Worked-cases

@@ -2,10 +2,10 @@
 use mathlib.Core.Path.{_≡_}
 use mathlib.Core.Bool.{true}
 use Prim.Native.Nat.{ℕ}
-use Rattle.labels.specs.Conjunctions.{conjunction-admits, literal-words, meet-words, empty-words}
+use Rattle.guards.specs.Conjunctions.{conjunction-admits, literal-words, meet-words, empty-words}
 use Rattle.labels.specs.Guards.{literal-guard, empty}
 use Rattle.labels.specs.Literals.{plus, minus}
-use Rattle.labels.specs.Tables.{table-word}
+use Rattle.guards.specs.Tables.{table-word}
 
 pub record Worked-cases : Type 0 where
   -- in the conjunction kind, +3 met with -3 is the one empty guard

@@ -3,12 +3,12 @@
 ghost use mathlib.Core.Path.{_≡_};
 ghost use mathlib.Core.Bool.{true};
 ghost use Rattle.cases.specs.Worked.{Worked-cases};
-use labels::Conjunction;
-use labels::ConjunctionGuard;
+use guards::Conjunction;
+use guards::ConjunctionGuard;
+use guards::TruthTable;
+use guards::TruthTableGuard;
 use labels::Guard;
 use labels::Literal;
-use labels::TruthTable;
-use labels::TruthTableGuard;
 
 // What the code answers in the worked cases.
 #[derive(Clone, Copy, Debug)]

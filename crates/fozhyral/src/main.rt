@@ -1,16 +1,14 @@
 // Fozhyral: a faceted archive of wireline log rows. So far it shows on one reading what labels,
 // guards, policies and passes decide: a well is tight until its release day, and each viewer is shown
 // either the tool's value or the null that stands in for it.
-mod readings;
-
 use cases::worked_cases;
 use faults::FaultDisplay;
 use faults::FaultError;
-use labels::Conjunction;
-use labels::ConjunctionGuard;
+use guards::Conjunction;
+use guards::ConjunctionGuard;
+use guards::TruthTable;
+use guards::TruthTableGuard;
 use labels::Guard;
-use labels::TruthTable;
-use labels::TruthTableGuard;
 use policies::Either;
 use policies::EitherPolicy;
 use policies::Partners;

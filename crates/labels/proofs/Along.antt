@@ -15,10 +15,10 @@ use Rattle.faults.specs.declared.Refusal.the-variants.{CountOutOfLimits}
 use Rattle.labels.specs.declared.literals.Literal.{Literal}
 use Rattle.faults.specs.Faults.{fault}
 use Rattle.labels.specs.Guards.{literal-guard, meet}
-use Rattle.labels.specs.Lists.{all}
+use Rattle.words.specs.Lists.{all}
 use Rattle.labels.specs.Literals.{holds}
 use Rattle.labels.specs.Paths.{path-holds, path-guard, all-known, room}
-use Rattle.labels.proofs.Walked.{all-more}
+use Rattle.words.proofs.Walked.{all-more}
 
 -- where the labels are known, the guard of a path admits the choices at which it holds
 pub path-guard-holds : (n : ℕ) (ls : List Literal) → all-known n ls ≡ true → path-guard n ls ≡ path-holds ls

@@ -4,7 +4,7 @@ use mathlib.Core.Path.{_≡_}
 use mathlib.Core.Bool.{Bool, true, not, _&&_}
 use lib.Dec.{ltb}
 use Rattle.labels.specs.declared.literals.Literal.{Literal}
-use Rattle.labels.specs.Choices.{has, some-choice}
+use Rattle.words.specs.Bits.{has, some-choice}
 use Rattle.labels.specs.Literals.{holds}
 
 -- the guard that admits every choice

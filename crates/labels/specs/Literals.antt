@@ -4,7 +4,7 @@ use mathlib.Core.Bool.{Bool, not}
 use Rattle.labels.specs.declared.literals.Literal.{Literal}
 use Rattle.labels.specs.declared.literals.Sign.{Sign}
 use Rattle.labels.specs.declared.literals.Sign.the-variants.{Plus, Minus}
-use Rattle.labels.specs.Choices.{has}
+use Rattle.words.specs.Bits.{has}
 
 -- plus takes an answer as it is, minus turns it round
 abbrev pub signed : Sign → Bool → Bool

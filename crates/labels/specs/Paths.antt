@@ -12,7 +12,7 @@ use Rattle.labels.specs.declared.literals.Literal.{Literal}
 use Rattle.labels.specs.declared.paths.Path.{Path}
 use Rattle.faults.specs.Faults.{fault}
 use Rattle.labels.specs.Guards.{literal-guard}
-use Rattle.labels.specs.Lists.{all}
+use Rattle.words.specs.Lists.{all}
 use Rattle.labels.specs.Literals.{holds}
 
 -- the literals of a path, in order

@@ -1,17 +1,7 @@
 // A choice: the set of labels that a viewer holds.
 ghost use mathlib.Core.Path.{_≡_};
-ghost use mathlib.Core.Bool.{_&&_, _||_};
-ghost use Prim.Native.Nat.{ℕ, _<_};
-ghost use lib.Dec.{eqb, ltb};
-ghost use Rattle.labels.specs.Choices.{has, with-label};
-
-// Whether bit `at` of the word is 1.
-pub(crate) fn bit(word: u64, at: u32) -> bool
-    requires { ⌜ at < 64 ⌝ }
-    ensures { λ r. ⌜ r ≡ has word at ⌝ }
-{
-    (word >> at) % 2 == 1
-}
+ghost use Rattle.words.specs.Bits.{has, with-label};
+use words::bit;
 
 // A set of labels below 64: bit l of the word is 1 when label l is in the set.
 #[derive(Clone, Copy, PartialEq, Eq, Debug)]
@@ -31,7 +21,7 @@ impl Choice {
     pub fn has(self, label: u32) -> bool
         ensures { λ r. ⌜ r ≡ has (self .bits) label ⌝ }
     {
-        label < 64 && bit(self.bits, label)
+        bit(self.bits, label)
     }
 
     // The choice with one label more. There is no room for a label from 64 up.

@@ -1,17 +1,11 @@
-// Labels, choices, literals and paths, and the guards over them.
+// Labels, choices, literals and paths, and what every kind of guard over them offers.
 pub mod choices;
-pub mod conjunctions;
-pub mod guards;
 pub mod literals;
+pub mod meaning;
 pub mod paths;
-pub mod truth_tables;
 
 pub use choices::Choice;
-pub use conjunctions::Conjunction;
-pub use conjunctions::ConjunctionGuard;
-pub use guards::Guard;
 pub use literals::Literal;
 pub use literals::Sign;
+pub use meaning::Guard;
 pub use paths::Path;
-pub use truth_tables::TruthTable;
-pub use truth_tables::TruthTableGuard;

@@ -10,7 +10,7 @@ use Rattle.std.specs.declared.result.Result.the-variants.{Ok, Err}
 use Rattle.faults.specs.declared.Fault.{Fault}
 use Rattle.faults.specs.declared.Refusal.the-variants.{PartnersFull}
 use Rattle.faults.specs.Faults.{fault}
-use Rattle.labels.specs.Lists.{any}
+use Rattle.words.specs.Lists.{any}
 use Rattle.policies.specs.declared.partners.Pair.{Pair}
 use Rattle.policies.specs.Ranges.{viewer-number, policy-label, then}
 

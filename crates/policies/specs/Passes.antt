@@ -7,7 +7,7 @@ use lib.IntN.{ℤ}
 use Rattle.std.specs.declared.result.Result.{Result}
 use Rattle.std.specs.declared.result.Result.the-variants.{Ok}
 use Rattle.faults.specs.declared.Fault.{Fault}
-use Rattle.labels.specs.Choices.{has, word-of}
+use Rattle.words.specs.Bits.{has, word-of}
 use Rattle.policies.specs.Ranges.{viewer-number, day-number, then}
 
 -- the choice of exactly those of the first `known` labels for which the policy says yes

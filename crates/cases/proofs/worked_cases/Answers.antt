@@ -1,8 +1,8 @@
 use mathlib.Core.Path.{_≡_, ap, ap₂, _∙_}
 use mathlib.Core.Bool.{Bool}
-use Rattle.labels.specs.Conjunctions.{Words, conjunction-admits, literal-words, meet-words}
+use Rattle.guards.specs.Conjunctions.{Words, conjunction-admits, literal-words, meet-words}
 use Rattle.labels.specs.Guards.{literal-guard, empty}
-use Rattle.labels.specs.Tables.{table-word}
+use Rattle.guards.specs.Tables.{table-word}
 use Rattle.cases.proofs.Shown.{worked}
 use Rattle.cases.proofs.worked_cases.Needs as need
 

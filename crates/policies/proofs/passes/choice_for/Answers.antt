@@ -2,8 +2,8 @@ use mathlib.Core.Bool.{Bool}
 use mathlib.Core.Path.{_≡_, ap, _∙_}
 use Prim.Native.Nat.{ℕ, _<_}
 use native.Mathlib.Omega.{arith}
-use Rattle.labels.specs.Choices.{has, word-of}
-use Rattle.labels.proofs.Words.{has-word-of, word-of-more, word-of-same}
+use Rattle.words.specs.Bits.{has, word-of}
+use Rattle.words.proofs.Digits.{has-word-of, word-of-more, word-of-same}
 use Rattle.policies.proofs.passes.choice_for.Given as given
 use Rattle.policies.proofs.passes.choice_for.Needs as need
 use Rattle.policies.proofs.passes.choice_for.Needs.{then-allows, else-allows}

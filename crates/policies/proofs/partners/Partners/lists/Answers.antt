@@ -1,7 +1,7 @@
 use mathlib.Core.Path.{sym, ap, _∙_}
 use lib.Seq.{take-all}
 use Rattle.std.proofs.shelf.Tests.{or-from}
-use Rattle.labels.proofs.Walked.{any-more, any-passes}
+use Rattle.words.proofs.Walked.{any-more, any-passes}
 use Rattle.policies.specs.Partners.{pairs, listed}
 use Rattle.policies.proofs.partners.Partners.lists.Needs as need
 

@@ -1,0 +1,2 @@
+pub mod Conjoined
+pub mod Tabled

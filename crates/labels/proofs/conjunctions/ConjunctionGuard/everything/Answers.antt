@@ -1,6 +1,0 @@
-use mathlib.Core.Path.{ap, _∙_}
-use Rattle.labels.proofs.Conjoined.{admits, none-asked}
-use Rattle.labels.proofs.conjunctions.ConjunctionGuard.everything.Needs as need
-
-pub returns : need.returns
-returns c = record { admitted = ap admits (c .unconditional .ensures) ∙ none-asked; value = c .unconditional .ensures }

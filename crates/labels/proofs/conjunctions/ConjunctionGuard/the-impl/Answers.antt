@@ -1,5 +1,0 @@
-use Rattle.labels.proofs.Conjoined.{ignores}
-use Rattle.labels.proofs.conjunctions.ConjunctionGuard.the-impl.Needs as need
-
-pub ignores-law : need.ignores-law
-ignores-law g = ignores (g .required) (g .excluded)
