@@ -9,9 +9,10 @@ use guards::TruthTable;
 use guards::TruthTableGuard;
 use labels::Guard;
 use labels::Literal;
+use labels::Sign;
 
 // What the code answers in the worked cases.
-#[derive(Clone, Copy, Debug)]
+#[derive(Clone, Copy)]
 pub struct Answers {
     // +3 met with -3, in the conjunction kind, is empty.
     pub contradiction_is_empty: bool,
@@ -25,9 +26,16 @@ pub fn worked_cases() -> Answers
     ensures proved { λ _. ⌜ Worked-cases ⌝ }
     ensures run { λ r. ⌜ r ≡ record { «contradiction_is_empty» = true; «fifth_label» = 0xFFFFFFFF00000000 } ⌝ }
 {
-    let inside: Conjunction = Guard::of_literal(Literal::plus(3));
-    let outside: Conjunction = Guard::of_literal(Literal::minus(3));
-    let fifth: TruthTable = Guard::of_literal(Literal::plus(5));
+    let third = Literal {
+        sign: Sign::Plus,
+        label: 3,
+    };
+    let inside: Conjunction = Guard::of_literal(third);
+    let outside: Conjunction = Guard::of_literal(third.opposite());
+    let fifth: TruthTable = Guard::of_literal(Literal {
+        sign: Sign::Plus,
+        label: 5,
+    });
     Answers {
         contradiction_is_empty: inside.meet(outside).is_empty(),
         fifth_label: fifth.word,

@@ -8,7 +8,7 @@ use std::error::Error;
 use std::fmt;
 
 // The part of the engine that a fault is told by.
-#[derive(Clone, Copy, PartialEq, Eq, Debug)]
+#[derive(Clone, Copy, PartialEq, Eq)]
 pub enum Layer {
     Text,
     Statement,
@@ -111,32 +111,13 @@ impl Fault {
             place,
         }
     }
-
-    // The same fault, told of a line of a script.
-    pub fn on_line(self, line: u32) -> Fault
-        ensures { λ r. ⌜ r ≡ record { refusal = self .refusal; line = line; place = self .place } ⌝ }
-    {
-        Fault { line, ..self }
-    }
-
-    pub fn number(self) -> u32
-        ensures { λ r. ⌜ r ≡ code (self .refusal) .number ⌝ }
-    {
-        self.refusal.number()
-    }
-
-    pub fn layer(self) -> Layer
-        ensures { λ r. ⌜ r ≡ code (self .refusal) .layer ⌝ }
-    {
-        self.refusal.layer()
-    }
 }
 
 pub impl fmt::Display for Fault as FaultDisplay {
     ghost shown = { λ f. Some (told f) };
 
     fn fmt<W: fmt::Write>(&self, f: &mut fmt::Formatter<W>) -> fmt::Result {
-        let number = self.number();
+        let number = self.refusal.number();
         let place = self.place;
         write!(f, "refusal {number} at place {place}")
     }

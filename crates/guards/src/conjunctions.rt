@@ -12,7 +12,7 @@ use labels::Sign;
 
 // Both words have bit l set for the labels l that they name. Words that contradict each other are
 // all written as one value, so that there is one empty guard.
-#[derive(Clone, Copy, PartialEq, Eq, Debug)]
+#[derive(Clone, Copy, PartialEq, Eq)]
 pub struct Conjunction {
     required: u64,
     excluded: u64,

@@ -22,7 +22,7 @@ const WITH_LABEL: [u64; 6] = [
 ];
 
 // Bit c of the word is 1 exactly if choice c is admitted.
-#[derive(Clone, Copy, PartialEq, Eq, Debug)]
+#[derive(Clone, Copy, PartialEq, Eq)]
 pub struct TruthTable {
     pub word: u64,
 }

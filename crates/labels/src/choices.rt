@@ -4,19 +4,12 @@ ghost use Rattle.words.specs.Bits.{has, with-label};
 use words::bit;
 
 // A set of labels below 64: bit l of the word is 1 when label l is in the set.
-#[derive(Clone, Copy, PartialEq, Eq, Debug)]
+#[derive(Clone, Copy, PartialEq, Eq)]
 pub struct Choice {
     pub bits: u64,
 }
 
 impl Choice {
-    // The choice with no label.
-    pub fn none() -> Choice
-        ensures { λ r. ⌜ r .bits ≡ 0 ⌝ }
-    {
-        Choice { bits: 0 }
-    }
-
     // Whether the label is in the choice.
     pub fn has(self, label: u32) -> bool
         ensures { λ r. ⌜ r ≡ has (self .bits) label ⌝ }

@@ -2,42 +2,22 @@
 ghost use mathlib.Core.Path.{_≡_};
 ghost use mathlib.Core.Bool.{not};
 ghost use Prim.Native.Nat.{ℕ};
-ghost use Rattle.labels.specs.Literals.{holds, plus, minus, opposite};
+ghost use Rattle.labels.specs.Literals.{holds, opposite};
 
-#[derive(Clone, Copy, PartialEq, Eq, Debug)]
+#[derive(Clone, Copy, PartialEq, Eq)]
 pub enum Sign {
     Plus,
     Minus,
 }
 
 // A label with its sign. The label is any number: whether it is known is the guard kind's to say.
-#[derive(Clone, Copy, PartialEq, Eq, Debug)]
+#[derive(Clone, Copy, PartialEq, Eq)]
 pub struct Literal {
     pub sign: Sign,
     pub label: u32,
 }
 
 impl Literal {
-    // Holds at the choices with the label.
-    pub fn plus(label: u32) -> Literal
-        ensures { λ r. ⌜ r ≡ plus label ⌝ }
-    {
-        Literal {
-            sign: Sign::Plus,
-            label,
-        }
-    }
-
-    // Holds at the choices without the label.
-    pub fn minus(label: u32) -> Literal
-        ensures { λ r. ⌜ r ≡ minus label ⌝ }
-    {
-        Literal {
-            sign: Sign::Minus,
-            label,
-        }
-    }
-
     // The literal that holds exactly where this one does not.
     pub fn opposite(self) -> Literal
         ensures value { λ r. ⌜ r ≡ opposite self ⌝ }

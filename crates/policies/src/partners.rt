@@ -86,6 +86,6 @@ pub impl Policy for Partners as PartnersPolicy {
     ghost says = { λ p viewer label day. listed (vec-items (p .pairs)) viewer label };
 
     fn allows(&self, viewer: Viewer, label: u32, _day: Day) -> bool {
-        self.lists(viewer.number(), label)
+        self.lists(viewer.number, label)
     }
 }

@@ -27,7 +27,7 @@ fn choice_for<G: Guard, P: Policy>(policy: &P, viewer: Viewer, day: Day) -> Choi
     ensures value { λ r. ⌜ r .bits ≡ choice-for known (says (now (policy .entry))) (viewer .number) (day .number) ⌝ }
     ensures labels { λ r. ⌜ Exactly known (says (now (policy .entry))) (viewer .number) (day .number) (r .bits) ⌝ }
 {
-    let mut choice = Choice::none();
+    let mut choice = Choice { bits: 0 };
     for label in 0..G::label_count() {
         if policy.allows(viewer, label, day) {
             choice = choice.with(label);

@@ -18,9 +18,9 @@ pub(crate) fn checked(n: i32, low: u32, high: u32, refusal: Refusal) -> Result<u
 }
 
 // Someone who asks: a number from 1 to 9,999.
-#[derive(Clone, Copy, PartialEq, Eq, Debug)]
+#[derive(Clone, Copy)]
 pub struct Viewer {
-    number: u32,
+    pub number: u32,
     ghost low: { 1 ≤ number },
     ghost high: { number ≤ 9999 },
 }
@@ -32,18 +32,12 @@ impl Viewer {
         let number = checked(number, 1, 9_999, Refusal::ViewerOutOfRange)?;
         Ok(Viewer { number })
     }
-
-    pub fn number(self) -> u32
-        ensures { λ r. ⌜ r ≡ self .number ⌝ }
-    {
-        self.number
-    }
 }
 
 // A day, counted from 1 January 1970: 0 to 99,999.
-#[derive(Clone, Copy, PartialEq, Eq, Debug)]
+#[derive(Clone, Copy)]
 pub struct Day {
-    number: u32,
+    pub number: u32,
     ghost high: { number ≤ 99999 },
 }
 
@@ -53,11 +47,5 @@ impl Day {
     {
         let number = checked(number, 0, 99_999, Refusal::DayOutOfRange)?;
         Ok(Day { number })
-    }
-
-    pub fn number(self) -> u32
-        ensures { λ r. ⌜ r ≡ self .number ⌝ }
-    {
-        self.number
     }
 }

@@ -75,6 +75,6 @@ pub impl Policy for Release as ReleasePolicy {
     ghost says = { λ p viewer label day. released (p .records) label day };
 
     fn allows(&self, _viewer: Viewer, label: u32, day: Day) -> bool {
-        self.release_day(label) <= day.number()
+        self.release_day(label) <= day.number
     }
 }

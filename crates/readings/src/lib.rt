@@ -6,6 +6,7 @@ ghost use Rattle.readings.specs.Readings.{null, shown-at, tight-shown};
 use faults::Fault;
 use labels::Guard;
 use labels::Literal;
+use labels::Sign;
 use policies::Pass;
 use policies::Policy;
 use std::fmt;
@@ -55,11 +56,17 @@ impl<G: Guard> Reading<G> {
     {
         Reading {
             measured: Facet {
-                guard: G::of_literal(Literal::plus(label)),
+                guard: G::of_literal(Literal {
+                    sign: Sign::Plus,
+                    label,
+                }),
                 value,
             },
             stand_in: Facet {
-                guard: G::of_literal(Literal::minus(label)),
+                guard: G::of_literal(Literal {
+                    sign: Sign::Minus,
+                    label,
+                }),
                 value: NULL,
             },
         }

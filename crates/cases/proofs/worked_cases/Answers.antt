@@ -1,8 +1,7 @@
 use mathlib.Core.Path.{_≡_, ap, ap₂, _∙_}
 use mathlib.Core.Bool.{Bool}
 use Rattle.guards.specs.Conjunctions.{Words, conjunction-admits, literal-words, meet-words}
-use Rattle.labels.specs.Guards.{literal-guard, empty}
-use Rattle.guards.specs.Tables.{table-word}
+use Rattle.labels.specs.Guards.{empty}
 use Rattle.cases.proofs.Shown.{worked}
 use Rattle.cases.proofs.worked_cases.Needs as need
 
@@ -11,9 +10,9 @@ empty-of w = empty (conjunction-admits (w .required) (w .excluded))
 
 pub returns : need.returns
 returns c =
-    let inside = c .of-literal-inside .ensures .value ∙ ap literal-words (c .plus .ensures) in
-    let outside = c .of-literal-outside .ensures .value ∙ ap literal-words (c .minus .ensures) in
+    let inside = c .of-literal-inside .ensures .value in
+    let outside = c .of-literal-outside .ensures .value ∙ ap literal-words (c .opposite .ensures .value) in
     let met = c .meet .ensures .value ∙ ap₂ meet-words inside outside ∙ worked .contradiction in
-    let fifth = c .of-literal-fifth .ensures .value ∙ ap (λ l. table-word (literal-guard 6 l)) (c .plus-2 .ensures) ∙ worked .fifth-label in
+    let fifth = c .of-literal-fifth .ensures .value ∙ worked .fifth-label in
     let none = c .is-empty .ensures .admitted ∙ ap empty-of met ∙ worked .nothing-admitted in
     record { proved = worked; run = λ i. record { «contradiction_is_empty» = none i; «fifth_label» = fifth i } }

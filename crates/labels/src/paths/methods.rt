@@ -8,6 +8,7 @@ ghost use Rattle.std.specs.Results.{Cases};
 ghost use Rattle.labels.specs.Guards.{literal-guard, meet};
 ghost use Rattle.labels.specs.Paths.{literals, path-holds, path-guard, all-known, room};
 use crate::literals::Literal;
+use crate::literals::Sign;
 use crate::meaning::Guard;
 use crate::paths::Path;
 use faults::Fault;
@@ -25,8 +26,12 @@ impl Path {
     pub fn new() -> Path
         ensures { λ r. ⌜ literals r ≡ [] ⌝ }
     {
+        let unused = Literal {
+            sign: Sign::Plus,
+            label: 0,
+        };
         Path {
-            literals: [Literal::plus(0); 8],
+            literals: [unused; 8],
             len: 0,
         }
     }

@@ -1,5 +1,5 @@
 use mathlib.Core.Bool.{Bool}
-use mathlib.Core.Path.{_≡_, ap, _∙_}
+use mathlib.Core.Path.{_≡_, refl, ap, _∙_}
 use Prim.Native.Nat.{ℕ, _<_}
 use native.Mathlib.Omega.{arith}
 use Rattle.words.specs.Bits.{has, word-of}
@@ -10,7 +10,7 @@ use Rattle.policies.proofs.passes.choice_for.Needs.{then-allows, else-allows}
 
 pub loop-label-holds : need.loop-label-holds
 unfolding word-of
-loop-label-holds g c = c .none-choice .ensures
+loop-label-holds g c = refl
 
 pub loop-label-again : need.loop-label-again
 loop-label-again g c =
