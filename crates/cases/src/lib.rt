@@ -2,6 +2,8 @@
 // and proved.
 ghost use mathlib.Core.Path.{_≡_};
 ghost use mathlib.Core.Bool.{true};
+ghost use Rattle.guards.specs.Conjunctions.{words, literal-words, meet-words};
+ghost use Rattle.labels.specs.Literals.{opposite};
 ghost use Rattle.cases.specs.Worked.{Worked-cases};
 use guards::Conjunction;
 use guards::ConjunctionGuard;
@@ -20,6 +22,14 @@ pub struct Answers {
     pub fifth_label: u64,
 }
 
+// The literal's guard met with that of its opposite, in the conjunction kind.
+fn met_with_opposite(literal: Literal) -> Conjunction
+    ensures { λ r. ⌜ words (r .required) (r .excluded) ≡ meet-words (literal-words literal) (literal-words (opposite literal)) ⌝ }
+{
+    let holds: Conjunction = Guard::of_literal(literal);
+    holds.meet(Guard::of_literal(literal.opposite()))
+}
+
 // Runs the worked cases. That they hold of the definitions is the first clause; that the code
 // answers accordingly, the second.
 pub fn worked_cases() -> Answers
@@ -30,14 +40,16 @@ pub fn worked_cases() -> Answers
         sign: Sign::Plus,
         label: 3,
     };
-    let inside: Conjunction = Guard::of_literal(third);
-    let outside: Conjunction = Guard::of_literal(third.opposite());
-    let fifth: TruthTable = Guard::of_literal(Literal {
+    let fifth = Literal {
         sign: Sign::Plus,
         label: 5,
-    });
+    };
+    let table: TruthTable = Guard::of_literal(fifth);
     Answers {
-        contradiction_is_empty: inside.meet(outside).is_empty(),
-        fifth_label: fifth.word,
+        contradiction_is_empty: met_with_opposite(third).is_empty(),
+        fifth_label: table.word,
     }
 }
+
+#[cfg(test)]
+mod tests;

@@ -4,5 +4,6 @@ pub mod truth_tables;
 
 pub use conjunctions::Conjunction;
 pub use conjunctions::ConjunctionGuard;
+pub use conjunctions::ConjunctionPartialEq;
 pub use truth_tables::TruthTable;
 pub use truth_tables::TruthTableGuard;
