@@ -4,7 +4,7 @@ ghost use mathlib.Core.Path.{_≡_};
 ghost use mathlib.Core.Bool.{true};
 ghost use Rattle.guards.specs.Conjunctions.{words, literal-words, meet-words};
 ghost use Rattle.labels.specs.Literals.{opposite};
-ghost use Rattle.cases.specs.Worked.{Worked-cases};
+ghost use Rattle.cases.specs.Worked.{Meanings, Worked-cases};
 use guards::Conjunction;
 use guards::ConjunctionGuard;
 use guards::TruthTable;
@@ -30,9 +30,10 @@ fn met_with_opposite(literal: Literal) -> Conjunction
     holds.meet(Guard::of_literal(literal.opposite()))
 }
 
-// Runs the worked cases. That they hold of the definitions is the first clause; that the code
-// answers accordingly, the second.
+// Runs the worked cases. The definitions mean what they should, the cases hold of them, and the code
+// answers accordingly.
 pub fn worked_cases() -> Answers
+    ensures meant { λ _. ⌜ Meanings ⌝ }
     ensures proved { λ _. ⌜ Worked-cases ⌝ }
     ensures run { λ r. ⌜ r ≡ record { «contradiction_is_empty» = true; «fifth_label» = 0xFFFFFFFF00000000 } ⌝ }
 {

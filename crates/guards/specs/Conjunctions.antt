@@ -14,9 +14,11 @@ pub record Words : Type 0 where
   pub required : ℕ
   pub excluded : ℕ
 
+-- the labels that must be in, and those that must be out
 abbrev pub words : ℕ → ℕ → Words
 words r x = record { required = r; excluded = x }
 
+-- if the first, then the second
 abbrev pub implies : Bool → Bool → Bool
 implies true b = b
 implies false b = true
@@ -45,6 +47,7 @@ settled r x = eqb (bitAnd r x) 0 || eqb r full && eqb x full
 abbrev pub settle : ℕ → ℕ → Words
 settle r x = cond (eqb (bitAnd r x) 0) (words r x) empty-words
 
+-- one label that must be in, or out
 abbrev pub one-label : Sign → ℕ → Words
 one-label Plus l = words (2 ^ l) 0
 one-label Minus l = words 0 (2 ^ l)

@@ -15,6 +15,7 @@ signed Minus b = not b
 abbrev pub holds : Literal → ℕ → Bool
 holds literal choice = signed (literal .sign) (has choice (literal .label))
 
+-- the other sign
 abbrev pub turned : Sign → Sign
 turned Plus = Minus
 turned Minus = Plus
@@ -23,8 +24,10 @@ turned Minus = Plus
 abbrev pub opposite : Literal → Literal
 opposite literal = record { sign = turned (literal .sign); label = literal .label }
 
+-- the literal +l
 abbrev pub plus : ℕ → Literal
 plus l = record { sign = Plus; label = l }
 
+-- the literal -l
 abbrev pub minus : ℕ → Literal
 minus l = record { sign = Minus; label = l }

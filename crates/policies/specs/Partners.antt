@@ -14,14 +14,15 @@ use Rattle.words.specs.Lists.{any}
 use Rattle.policies.specs.declared.partners.Pair.{Pair}
 use Rattle.policies.specs.Ranges.{viewer-number, policy-label, then}
 
--- the pair of this viewer and this label
-abbrev pub pairs : Pair → ℕ → ℕ → Bool
-pairs p viewer label = eqb (p .viewer) viewer && eqb (p .label) label
+-- it is the pair of this viewer and this label
+abbrev pub is-pair : Pair → ℕ → ℕ → Bool
+is-pair p viewer label = eqb (p .viewer) viewer && eqb (p .label) label
 
 -- yes exactly for the listed pairs, on every day
 abbrev pub listed : List Pair → ℕ → ℕ → Bool
-listed ps viewer label = any (λ p. pairs p viewer label) ps
+listed ps viewer label = any (λ p. is-pair p viewer label) ps
 
+-- a viewer with a label
 abbrev pub pair : ℕ → ℕ → Pair
 pair viewer label = record { viewer = viewer; label = label }
 

@@ -6,7 +6,7 @@ ghost use Rattle.std.specs.Of.Vec.{vec-items, vec-len, vec-cap};
 ghost use Rattle.std.specs.Vec.{made};
 ghost use Rattle.std.specs.Results.{Cases};
 ghost use Rattle.std.specs.declared.result.Result.the-variants.{Ok, Err};
-ghost use Rattle.policies.specs.Partners.{pairs, listed, with-pair};
+ghost use Rattle.policies.specs.Partners.{is-pair, listed, with-pair};
 use crate::questions::Policy;
 use crate::ranges::Day;
 use crate::ranges::Viewer;
@@ -28,7 +28,7 @@ pub struct Pair {
 impl Pair {
     // Whether this is the pair of the viewer and the label.
     fn is(self, viewer: u32, label: u32) -> bool
-        ensures { λ r. ⌜ r ≡ pairs self viewer label ⌝ }
+        ensures { λ r. ⌜ r ≡ is-pair self viewer label ⌝ }
     {
         self.viewer == viewer && self.label == label
     }

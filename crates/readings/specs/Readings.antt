@@ -1,6 +1,9 @@
 -- A reading with two facets: the tool's value for those with a label, a null for the others. Assumes nothing.
 use Prim.Native.Nat.{ℕ}
 use mathlib.Core.Bool.{Bool, cond}
+use mathlib.Core.List.{List, _++_}
+use lib.Chars.{codes}
+use Rattle.std.specs.Written.{signed}
 use lib.Dec.{ltb}
 use lib.IntN.{ℤ, negsuc}
 use Rattle.std.specs.declared.result.Result.{Result}
@@ -13,6 +16,12 @@ use Rattle.readings.specs.declared.Shown.the-variants.{Measured, StandIn, Noth
 -- the value of a reading that was not taken: -999.25 in thousandths
 abbrev pub null : ℤ
 null = negsuc 999249
+
+-- a shown facet in words
+abbrev pub described : Shown → List ℕ
+described (Measured value) = codes "the tool's value " ++ signed value
+described (StandIn value) = codes "the stand-in " ++ signed value
+described Nothing = codes "nothing"
 
 -- what a choice is shown of two facets, each with the choices that it is for: the first that admits it
 abbrev pub shown-at : (ℕ → Bool) → ℤ → (ℕ → Bool) → ℤ → ℕ → Shown

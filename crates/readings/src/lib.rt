@@ -2,7 +2,8 @@
 ghost use mathlib.Core.Path.{_≡_};
 ghost use Rattle.labels.specs.Guards.{literal-guard};
 ghost use Rattle.labels.specs.Literals.{plus, minus};
-ghost use Rattle.readings.specs.Readings.{null, shown-at, tight-shown};
+ghost use Rattle.readings.specs.Readings.{described, null, shown-at, tight-shown};
+ghost use Rattle.std.specs.declared.option.Option.the-variants.{Some};
 use faults::Fault;
 use labels::Guard;
 use labels::Literal;
@@ -29,7 +30,7 @@ pub struct Reading<G> {
 }
 
 // The facet that was shown.
-#[derive(Clone, Copy, PartialEq, Eq, Debug)]
+#[derive(Clone, Copy)]
 pub enum Shown {
     Measured(i32),
     StandIn(i32),
@@ -37,6 +38,8 @@ pub enum Shown {
 }
 
 pub impl fmt::Display for Shown as ShownDisplay {
+    ghost shown = { λ s. Some (described s) };
+
     fn fmt<W: fmt::Write>(&self, f: &mut fmt::Formatter<W>) -> fmt::Result {
         match *self {
             Shown::Measured(value) => write!(f, "the tool's value {value}"),

@@ -1,4 +1,4 @@
--- Choices: sets of labels, each held as a number whose bit l is 1 when label l is in it. Assumes nothing.
+-- Words read as sets. A choice is a set of labels, held as a word whose bit l is 1 when label l is in it. Assumes nothing.
 use Prim.Native.Nat.{ℕ, zero, suc, _+_, _/_, _%_, _^_}
 use mathlib.Core.Bool.{Bool, true, false, cond, _&&_, _||_}
 use lib.Bits.{bitOr}

@@ -15,8 +15,10 @@ pub trait Guard: Copy {
     // The choices that a guard admits.
     ghost admitted: { Self → ℕ → Bool };
 
+    // A choice has no more.
     law few: { known ≤ 64 };
 
+    // Choices that differ only in labels that the kind does not know are admitted alike.
     law ignores: { (g : Self) → Ignores-from known (admitted g) };
 
     fn label_count() -> u32
