@@ -30,21 +30,25 @@ fn plus(label: u32) -> Literal {
     }
 }
 
-// A guard of +0 met with -5 admits, of these choices, the one with label 0 alone.
-fn admits_one<G: Guard>() -> bool {
+// A guard of +0 met with -5 admits the choices with label 0 and without label 5, whatever else they
+// have; a literal of the first unknown label admits none.
+fn answers_right<G: Guard>() -> bool {
     let guard = G::of_literal(plus(0)).meet(G::of_literal(plus(5).opposite()));
-    let mut admitted = 0;
-    for bits in [0b00_0001, 0b00_0000, 0b10_0001, 0b10_0000] {
-        if guard.admits(Choice { bits }) {
-            admitted |= bits;
-        }
+    let mut right = G::of_literal(plus(G::label_count())).is_empty();
+    for (bits, expected) in [
+        (0b00_0001, true),
+        (0b01_1111, true),
+        (0b00_0000, false),
+        (0b10_0001, false),
+    ] {
+        right = right && guard.admits(Choice { bits }) == expected;
     }
-    admitted == 1 && G::of_literal(plus(64)).is_empty()
+    right
 }
 
 #[test]
 fn both_kinds_of_guard() -> Result<(), Fail> {
-    check(admits_one::<Conjunction>() && admits_one::<TruthTable>())?;
+    check(answers_right::<Conjunction>() && answers_right::<TruthTable>())?;
     check(Conjunction::of_words(1, 1) == Conjunction::of_words(6, 2))
 }
 
@@ -97,6 +101,16 @@ fn passes_by_release_or_partner(rt: LibcRuntime) -> Result<(), Fail> {
     };
     policy.first.set_day(0, 9_500)?;
     policy.second.list(12, 5)?;
+    for (label, day, refusal) in [
+        (0, 100_001, Refusal::DayOutOfRange),
+        (-1, -1, Refusal::DayOutOfRange),
+        (64, 100_000, Refusal::UnknownLabel),
+    ] {
+        check_eq(
+            policy.first.set_day(label, day),
+            Err(Fault::new(refusal, 0)),
+        )?;
+    }
     let asked = [
         (12, 9_499, Ok(1 << 5)),
         (12, 9_500, Ok(1 | 1 << 5)),

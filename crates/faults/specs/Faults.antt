@@ -34,6 +34,7 @@ pub record Code : Type 0 where
   pub number : ℕ
   pub layer : Layer
 
+-- a number with its layer
 abbrev coded : ℕ → Layer → Code
 coded n l = record { number = n; layer = l }
 
@@ -63,6 +64,6 @@ code StoreNotEmpty = coded 52 Store
 abbrev pub fault : Refusal → ℕ → Fault
 fault refusal place = record { refusal = refusal; line = 0; place = place }
 
--- a fault in words
-abbrev pub told : Fault → List ℕ
-told f = codes "refusal " ++ (decimal (code (f .refusal) .number) ++ (codes " at place " ++ decimal (f .place)))
+-- a fault in words, without its line
+abbrev pub fault-text : Fault → List ℕ
+fault-text f = codes "refusal " ++ (decimal (code (f .refusal) .number) ++ (codes " at place " ++ decimal (f .place)))

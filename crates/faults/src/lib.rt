@@ -3,7 +3,7 @@ ghost use mathlib.Core.Path.{_≡_};
 ghost use lib.Dec.{eqb};
 ghost use Rattle.std.specs.Orderings.{Decides};
 ghost use Rattle.std.specs.declared.option.Option.the-variants.{Some};
-ghost use Rattle.faults.specs.Faults.{code, fault, told};
+ghost use Rattle.faults.specs.Faults.{code, fault, fault-text};
 use std::error::Error;
 use std::fmt;
 
@@ -114,7 +114,7 @@ impl Fault {
 }
 
 pub impl fmt::Display for Fault as FaultDisplay {
-    ghost shown = { λ f. Some (told f) };
+    ghost shown = { λ f. Some (fault-text f) };
 
     fn fmt<W: fmt::Write>(&self, f: &mut fmt::Formatter<W>) -> fmt::Result {
         let number = self.refusal.number();

@@ -1,5 +1,5 @@
 // Fozhyral: a faceted archive of wireline log rows. So far it shows on one reading what labels,
-// guards, policies and passes decide: a well is tight until its release day, and each viewer is shown
+// guards, policies and passes decide: a well is confidential until its release day, and each viewer is shown
 // either the tool's value or the null that stands in for it.
 use cases::worked_cases;
 use faults::FaultDisplay;
@@ -16,12 +16,13 @@ use policies::PartnersPolicy;
 use policies::Policy;
 use policies::Release;
 use policies::ReleasePolicy;
+use readings::NULL;
 use readings::ShownDisplay;
-use readings::show_tight;
+use readings::show_confidential;
 use std::error::AnyError;
 
-// The label of the tight well.
-const TIGHT: u32 = 0;
+// The label of the well.
+const LABEL: u32 = 0;
 
 // The value that the tool read.
 const VALUE: i32 = 2_350;
@@ -76,7 +77,7 @@ fn decide_all<G: Guard, P: Policy>(
     for visit in VISITS {
         let viewer = visit.viewer;
         let day = visit.day;
-        match show_tight::<G, P>(policy, TIGHT, VALUE, viewer, day) {
+        match show_confidential::<G, P>(policy, LABEL, VALUE, viewer, day) {
             Ok(shown) => println!(rt, "  viewer {viewer} on day {day} is shown {shown}")?,
             Err(fault) => println!(rt, "  viewer {viewer} on day {day} is turned back: {fault}")?,
         }
@@ -84,7 +85,7 @@ fn decide_all<G: Guard, P: Policy>(
     Ok(())
 }
 
-// A tight well: released on a day, with one partner before it.
+// A confidential well: released on a day, with one partner before it.
 fn tour(rt: &LibcRuntime) -> Result<(), AnyError> {
     let mut policy = Either {
         first: Release::new(),
@@ -96,7 +97,7 @@ fn tour(rt: &LibcRuntime) -> Result<(), AnyError> {
     println!(rt, "viewer 12 is a partner for label 0")?;
     println!(
         rt,
-        "a reading has two facets: {VALUE} with label {TIGHT}, -999250 without"
+        "a reading has two facets: {VALUE} with label {LABEL}, {NULL} without"
     )?;
     decide_all::<Conjunction, _>(rt, &policy, "conjunction")?;
     decide_all::<TruthTable, _>(rt, &policy, "table")?;

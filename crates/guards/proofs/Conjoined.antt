@@ -5,13 +5,13 @@ use mathlib.Core.Logic.{⊎-elim}
 use Prim.Native.Nat.{ℕ, _^_, _<_, _≤_}
 use native.Mathlib.Nat.{lt-of-le-of-lt}
 use native.Mathlib.Omega.{arith}
-use lib.Bits.{bitAnd, bitOr, and-le-r, and-lt, and-zero-l, and-zero-r}
+use lib.Bits.{bitAnd, bitOr, and-le-r, and-lt}
 use lib.Dec.{eqb, ltb}
 use lib.Pow.{pow-pos}
 use Rattle.std.specs.Orderings.{Decides}
 use Rattle.std.proofs.shelf.Tests.{eqb-true, eqb-false, eq-eqb, ne-eqb, and-parts, and-from, or-cases, cases-lt, both-ways, lt-ltb, le-ltb, cond-true, cond-false, false≢true}
 use Rattle.words.specs.Bits.{has, every-label, some-choice}
-use Rattle.guards.specs.Conjunctions.{Words, words, implies, as-asked, conjunction-admits, full, empty-words, settle, settled, literal-words, one-label}
+use Rattle.guards.specs.Conjunctions.{Words, words, implies, as-asked, conjunction-admits, full, empty-words, canonical, is-canonical, literal-words, one-label}
 use Rattle.labels.specs.Guards.{everything, literal-guard, meet, empty, Ignores-from}
 use Rattle.labels.specs.Literals.{signed, holds}
 use Rattle.labels.specs.declared.literals.Literal.{Literal}
@@ -116,9 +116,9 @@ full-small = omega arith
 pub full-empty : (c : ℕ) → conjunction-admits full full c ≡ false
 full-empty c = contradiction full full c full-small full-small (λ e. omega (arith, e))
 
--- settling changes no meaning
-pub settle-admits : (r x : ℕ) → r < 2 ^ 64 → x < 2 ^ 64 → admits (settle r x) ≡ conjunction-admits r x
-settle-admits r x hr hx = go (eqb (bitAnd r x) 0) refl
+-- the canonical words mean the same
+pub canonical-admits : (r x : ℕ) → r < 2 ^ 64 → x < 2 ^ 64 → admits (canonical r x) ≡ conjunction-admits r x
+canonical-admits r x hr hx = go (eqb (bitAnd r x) 0) refl
   where
     go : (b : Bool) → eqb (bitAnd r x) 0 ≡ b → admits (cond b (words r x) empty-words) ≡ conjunction-admits r x
     go true e = refl
@@ -212,13 +212,8 @@ literal-admits literal = fun-ext (λ c. ⊎-elim (below c) (above c) (cases-lt (
     above c h =
         ap (λ w. admits w c) (unknown-words literal h) ∙ full-empty c ∙ sym (ap (λ b. b && holds literal c) (le-ltb (literal .label) 64 h))
 
--- one word alone contradicts nothing
-pub settle-one : (s : Sign) (l : ℕ) → settle (one-label s l .required) (one-label s l .excluded) ≡ one-label s l
-settle-one Plus l = ap (λ n. cond (eqb n 0) (words (2 ^ l) 0) empty-words) (and-zero-r (2 ^ l))
-settle-one Minus l = ap (λ n. cond (eqb n 0) (words 0 (2 ^ l)) empty-words) (and-zero-l (2 ^ l))
-
--- a settled guard that is empty is the one empty guard
-pub one-empty : (r x : ℕ) → settled r x ≡ true → not (eqb (bitAnd r x) 0) ≡ true → words r x ≡ empty-words
+-- a canonical guard that is empty is the one empty guard
+pub one-empty : (r x : ℕ) → is-canonical r x ≡ true → not (eqb (bitAnd r x) 0) ≡ true → words r x ≡ empty-words
 one-empty r x s e = go (eqb (bitAnd r x) 0) s e
   where
     go : (b : Bool) → (b || eqb r full && eqb x full) ≡ true → not b ≡ true → words r x ≡ empty-words

@@ -1,6 +1,5 @@
 -- The conjunction kind: a word of labels that must be in a choice, and one of labels that must be out. Assumes nothing.
 use Prim.Native.Nat.{ℕ, _^_, _-_}
-use mathlib.Core.Path.{_≡_}
 use mathlib.Core.Bool.{Bool, true, false, not, cond, _&&_, _||_}
 use lib.Bits.{bitAnd, bitOr}
 use lib.Dec.{eqb, ltb}
@@ -40,12 +39,12 @@ abbrev pub empty-words : Words
 empty-words = words full full
 
 -- no label is asked to be both in and out, or this is the one empty guard
-abbrev pub settled : ℕ → ℕ → Bool
-settled r x = eqb (bitAnd r x) 0 || eqb r full && eqb x full
+abbrev pub is-canonical : ℕ → ℕ → Bool
+is-canonical r x = eqb (bitAnd r x) 0 || eqb r full && eqb x full
 
 -- words that contradict each other stand for the one empty guard
-abbrev pub settle : ℕ → ℕ → Words
-settle r x = cond (eqb (bitAnd r x) 0) (words r x) empty-words
+abbrev pub canonical : ℕ → ℕ → Words
+canonical r x = cond (eqb (bitAnd r x) 0) (words r x) empty-words
 
 -- one label that must be in, or out
 abbrev pub one-label : Sign → ℕ → Words
@@ -58,4 +57,4 @@ literal-words literal = cond (ltb (literal .label) 64) (one-label (literal .sign
 
 -- the meet asks for what both ask for
 abbrev pub meet-words : Words → Words → Words
-meet-words g h = settle (bitOr (g .required) (h .required)) (bitOr (g .excluded) (h .excluded))
+meet-words g h = canonical (bitOr (g .required) (h .required)) (bitOr (g .excluded) (h .excluded))

@@ -3,7 +3,7 @@ ghost use mathlib.Core.Path.{_≡_};
 ghost use mathlib.Core.Bool.{true, not, _&&_};
 ghost use lib.Bits.{bitAnd};
 ghost use lib.Dec.{eqb};
-ghost use Rattle.guards.specs.Conjunctions.{conjunction-admits, settled, settle, words, literal-words, meet-words, empty-words};
+ghost use Rattle.guards.specs.Conjunctions.{conjunction-admits, is-canonical, canonical, words, literal-words, meet-words, empty-words};
 ghost use Rattle.labels.specs.Guards.{everything, literal-guard, meet, empty};
 use labels::Choice;
 use labels::Guard;
@@ -16,14 +16,14 @@ use labels::Sign;
 pub struct Conjunction {
     required: u64,
     excluded: u64,
-    ghost one_empty: { settled required excluded ≡ true },
+    ghost one_empty: { is-canonical required excluded ≡ true },
 }
 
 // The words, by plain contracts; what they admit is said below.
 impl Conjunction {
     // Asks for the labels of one word to be in and for those of the other to be out.
     pub fn of_words(required: u64, excluded: u64) -> Conjunction
-        ensures { λ r. ⌜ words (r .required) (r .excluded) ≡ settle required excluded ⌝ }
+        ensures { λ r. ⌜ words (r .required) (r .excluded) ≡ canonical required excluded ⌝ }
     {
         if required & excluded == 0 {
             Conjunction { required, excluded }

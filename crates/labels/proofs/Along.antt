@@ -34,10 +34,3 @@ path-guard-holds n ls known = fun-ext (λ c. each c ls known)
 pub guard-turn : (n : ℕ) (ls : List Literal) (i : ℕ) (d : Literal) (f g : ℕ → Bool) → i < length ls → f ≡ path-guard n (take i ls) → g ≡ meet f (literal-guard n (getD ls i d)) → g ≡ path-guard n (take (i + 1) ls)
 guard-turn n ls i d f g within before met =
     met ∙ ap (λ h. meet h (literal-guard n (getD ls i d))) before ∙ fun-ext (λ c. sym (all-more (λ l. literal-guard n l c) ls i d within))
-
--- a path whose room was not refused has room
-pub room-left : (ls : List Literal) → Ok tt ≡ room ls → length ls < 8
-room-left ls e = ⊎-elim (λ h. h) (λ h. absurd (ok-err (e ∙ cond-false (ltb (length ls) 8) (Ok tt) (Err (fault CountOutOfLimits 0)) (le-ltb (length ls) 8 h)))) (cases-lt (length ls) 8)
-  where
-    ok-err : _≡_ {A = Result (Unit {0}) Fault} (Ok tt) (Err (fault CountOutOfLimits 0)) → ⊥
-    ok-err f = let z : _≡_ {A = ℕ} 0 1 = cc in omega arith

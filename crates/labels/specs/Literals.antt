@@ -16,13 +16,13 @@ abbrev pub holds : Literal → ℕ → Bool
 holds literal choice = signed (literal .sign) (has choice (literal .label))
 
 -- the other sign
-abbrev pub turned : Sign → Sign
-turned Plus = Minus
-turned Minus = Plus
+abbrev pub opposite-sign : Sign → Sign
+opposite-sign Plus = Minus
+opposite-sign Minus = Plus
 
 -- the literal that holds exactly where this one does not
 abbrev pub opposite : Literal → Literal
-opposite literal = record { sign = turned (literal .sign); label = literal .label }
+opposite literal = record { sign = opposite-sign (literal .sign); label = literal .label }
 
 -- the literal +l
 abbrev pub plus : ℕ → Literal

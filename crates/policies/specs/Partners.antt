@@ -27,9 +27,9 @@ abbrev pub pair : ℕ → ℕ → Pair
 pair viewer label = record { viewer = viewer; label = label }
 
 -- the list with one pair more: a pair that is listed changes nothing, and a new one needs room
-abbrev pub with-new : List Pair → ℕ → ℕ → Result (List Pair) Fault
-with-new ps viewer label = cond (listed ps viewer label) (Ok ps) (cond (ltb (length ps) 256) (Ok (ps ++ pair viewer label ∷ [])) (Err (fault PartnersFull 256)))
+abbrev pub with-checked-pair : List Pair → ℕ → ℕ → Result (List Pair) Fault
+with-checked-pair ps viewer label = cond (listed ps viewer label) (Ok ps) (cond (ltb (length ps) 256) (Ok (ps ++ pair viewer label ∷ [])) (Err (fault PartnersFull 256)))
 
 -- the viewer is checked first, then the label, then the room
 abbrev pub with-pair : List Pair → ℤ → ℤ → Result (List Pair) Fault
-with-pair ps viewer label = then (viewer-number viewer) (λ v. then (policy-label label) (λ l. with-new ps v l))
+with-pair ps viewer label = then (viewer-number viewer) (λ v. then (policy-label label) (λ l. with-checked-pair ps v l))

@@ -19,5 +19,5 @@ abbrev pub resolved : ℕ → (ℕ → ℕ → ℕ → Bool) → ℤ → ℤ →
 resolved known says viewer day = then (viewer-number viewer) (λ v. then (day-number day) (λ d. Ok (choice-for known says v d)))
 
 -- the choice holds exactly those labels of the kind for which the policy says yes
-abbrev pub Exactly : ℕ → (ℕ → ℕ → ℕ → Bool) → ℕ → ℕ → ℕ → Type 0
-Exactly known says viewer day choice = (label : ℕ) → has choice label ≡ (ltb label known && says viewer label day)
+abbrev pub Holds-what-is-allowed : ℕ → (ℕ → ℕ → ℕ → Bool) → ℕ → ℕ → ℕ → Type 0
+Holds-what-is-allowed known says viewer day choice = (label : ℕ) → has choice label ≡ (ltb label known && says viewer label day)

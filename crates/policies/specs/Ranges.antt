@@ -10,7 +10,7 @@ use Rattle.faults.specs.declared.Refusal.{Refusal}
 use Rattle.faults.specs.declared.Refusal.the-variants.{UnknownLabel, ViewerOutOfRange, DayOutOfRange}
 use Rattle.faults.specs.Faults.{fault}
 
--- a number as a natural; of negative ones nothing is used
+-- a number as a natural; a negative one becomes 0, and is refused before that counts
 abbrev pub natural : ℤ → ℕ
 natural (pos n) = n
 natural (negsuc n) = 0
@@ -27,7 +27,7 @@ in-range low high refusal n = cond (between low high n) (Ok (natural n)) (Err (f
 abbrev pub viewer-number : ℤ → Result ℕ Fault
 viewer-number = in-range 1 9999 ViewerOutOfRange
 
--- a day is 0 to 99,999
+-- a day is 0 to 99,999, counted from 1 January 1970
 abbrev pub day-number : ℤ → Result ℕ Fault
 day-number = in-range 0 99999 DayOutOfRange
 

@@ -11,7 +11,7 @@ use Rattle.faults.specs.declared.Fault.{Fault}
 use Rattle.policies.specs.declared.releases.LabelRecord.{LabelRecord}
 use Rattle.policies.specs.Ranges.{release-day-number, policy-label, then}
 
--- the day that a label has which was never set: after every day
+-- the release day of a label that was never set: later than every day
 abbrev pub never : ℕ
 never = 100000
 

@@ -10,7 +10,7 @@ ghost use Rattle.policies.specs.Partners.{is-pair, listed, with-pair};
 use crate::questions::Policy;
 use crate::ranges::Day;
 use crate::ranges::Viewer;
-use crate::ranges::checked;
+use crate::ranges::policy_label;
 use faults::Fault;
 use faults::Refusal;
 use std::alloc::AllocError;
@@ -69,13 +69,13 @@ impl Partners {
     pub fn list(&mut self, viewer: i32, label: i32) -> Result<(), Fault>
         ensures { λ r. ⌜ Cases r (λ _. with-pair (vec-items (now (self .entry) .pairs)) viewer label ≡ Ok (vec-items (now (self .exit) .pairs))) (λ f. (with-pair (vec-items (now (self .entry) .pairs)) viewer label ≡ Err f) × (now (self .exit) ≡ now (self .entry))) ⌝ }
     {
-        let viewer = checked(viewer, 1, 9_999, Refusal::ViewerOutOfRange)?;
-        let label = checked(label, 0, 63, Refusal::UnknownLabel)?;
+        let viewer = Viewer::new(viewer)?.number;
+        let label = policy_label(label)?;
         if self.lists(viewer, label) {
             return Ok(());
         }
         if self.pairs.len() >= MOST_PAIRS {
-            return Err(Fault::new(Refusal::PartnersFull, 256));
+            return Err(Fault::new(Refusal::PartnersFull, MOST_PAIRS as u32));
         }
         self.pairs.push_reserved(Pair { viewer, label });
         Ok(())

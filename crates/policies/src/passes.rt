@@ -4,7 +4,7 @@ ghost use Prim.Native.Nat.{ℕ};
 ghost use Rattle.std.specs.Results.{Cases};
 ghost use Rattle.std.specs.Vec.{made};
 ghost use Rattle.std.specs.declared.result.Result.the-variants.{Ok, Err};
-ghost use Rattle.policies.specs.Passes.{choice-for, resolved, Exactly};
+ghost use Rattle.policies.specs.Passes.{choice-for, resolved, Holds-what-is-allowed};
 ghost use Rattle.policies.specs.Ranges.{viewer-number, day-number};
 use crate::questions::Policy;
 use crate::ranges::Day;
@@ -25,7 +25,7 @@ pub struct Pass<G> {
 // The labels of the kind for which the policy says yes.
 fn choice_for<G: Guard, P: Policy>(policy: &P, viewer: Viewer, day: Day) -> Choice
     ensures value { λ r. ⌜ r .bits ≡ choice-for known (says (now (policy .entry))) (viewer .number) (day .number) ⌝ }
-    ensures labels { λ r. ⌜ Exactly known (says (now (policy .entry))) (viewer .number) (day .number) (r .bits) ⌝ }
+    ensures labels { λ r. ⌜ Holds-what-is-allowed known (says (now (policy .entry))) (viewer .number) (day .number) (r .bits) ⌝ }
 {
     let mut choice = Choice { bits: 0 };
     for label in 0..G::label_count() {
@@ -40,7 +40,7 @@ impl<G: Guard> Pass<G> {
     // Asks the policy about each label that the guard kind knows.
     pub fn resolve<P: Policy>(policy: &P, viewer: i32, day: i32) -> Result<Pass<G>, Fault>
         ensures value { λ r. ⌜ Cases r (λ p. resolved known (says (now (policy .entry))) viewer day ≡ Ok (p .choice .bits)) (λ f. resolved known (says (now (policy .entry))) viewer day ≡ Err f) ⌝ }
-        ensures labels { λ r. ⌜ made r (λ p. (v d : ℕ) → viewer-number viewer ≡ Ok v → day-number day ≡ Ok d → Exactly known (says (now (policy .entry))) v d (p .choice .bits)) ⌝ }
+        ensures labels { λ r. ⌜ made r (λ p. (v d : ℕ) → viewer-number viewer ≡ Ok v → day-number day ≡ Ok d → Holds-what-is-allowed known (says (now (policy .entry))) v d (p .choice .bits)) ⌝ }
     {
         let viewer = Viewer::new(viewer)?;
         let day = Day::new(day)?;

@@ -3,7 +3,7 @@ ghost use mathlib.Core.Path.{_≡_};
 ghost use Prim.Native.Nat.{_≤_};
 ghost use Rattle.std.specs.Results.{Cases};
 ghost use Rattle.std.specs.declared.result.Result.the-variants.{Ok, Err};
-ghost use Rattle.policies.specs.Ranges.{in-range, viewer-number, day-number};
+ghost use Rattle.policies.specs.Ranges.{in-range, viewer-number, day-number, policy-label};
 use faults::Fault;
 use faults::Refusal;
 
@@ -15,6 +15,13 @@ pub(crate) fn checked(n: i32, low: u32, high: u32, refusal: Refusal) -> Result<u
         Ok(number) if low <= number && number <= high => Ok(number),
         _ => Err(Fault::new(refusal, 0)),
     }
+}
+
+// A label that a policy speaks of: 0 to 63.
+pub(crate) fn policy_label(number: i32) -> Result<u32, Fault>
+    ensures { λ r. ⌜ r ≡ policy-label number ⌝ }
+{
+    checked(number, 0, 63, Refusal::UnknownLabel)
 }
 
 // Someone who asks: a number from 1 to 9,999.

@@ -8,6 +8,7 @@ use crate::questions::Policy;
 use crate::ranges::Day;
 use crate::ranges::Viewer;
 use crate::ranges::checked;
+use crate::ranges::policy_label;
 use faults::Fault;
 use faults::Refusal;
 
@@ -55,7 +56,7 @@ impl Release {
         ensures { λ r. ⌜ Cases r (λ _. with-day (now (self .entry) .records) label day ≡ Ok (now (self .exit) .records)) (λ f. (with-day (now (self .entry) .records) label day ≡ Err f) × (now (self .exit) ≡ now (self .entry))) ⌝ }
     {
         let day = checked(day, 0, NEVER, Refusal::DayOutOfRange)?;
-        let label = checked(label, 0, 63, Refusal::UnknownLabel)?;
+        let label = policy_label(label)?;
         self.records[label as usize] = LabelRecord { day, set: true };
         Ok(())
     }

@@ -18,20 +18,20 @@ abbrev pub null : ℤ
 null = negsuc 999249
 
 -- a shown facet in words
-abbrev pub described : Shown → List ℕ
-described (Measured value) = codes "the tool's value " ++ signed value
-described (StandIn value) = codes "the stand-in " ++ signed value
-described Nothing = codes "nothing"
+abbrev pub shown-text : Shown → List ℕ
+shown-text (Measured value) = codes "the tool's value " ++ signed value
+shown-text (StandIn value) = codes "the stand-in " ++ signed value
+shown-text Nothing = codes "nothing"
 
 -- what a choice is shown of two facets, each with the choices that it is for: the first that admits it
 abbrev pub shown-at : (ℕ → Bool) → ℤ → (ℕ → Bool) → ℤ → ℕ → Shown
 shown-at measured value stand-in other choice = cond (measured choice) (Measured value) (cond (stand-in choice) (StandIn other) Nothing)
 
--- what a viewer is shown of a tight reading on a day: the tool's value if the policy says yes to the label, and the null
+-- what a viewer is shown of a confidential reading on a day: the tool's value if the policy says yes to the label, and the null
 -- if not; nothing, where the label is not known
-abbrev pub tight-for : ℕ → (ℕ → ℕ → ℕ → Bool) → ℕ → ℤ → ℕ → ℕ → Shown
-tight-for known says label value viewer day = cond (ltb label known) (cond (says viewer label day) (Measured value) (StandIn null)) Nothing
+abbrev pub confidential-for : ℕ → (ℕ → ℕ → ℕ → Bool) → ℕ → ℤ → ℕ → ℕ → Shown
+confidential-for known says label value viewer day = cond (ltb label known) (cond (says viewer label day) (Measured value) (StandIn null)) Nothing
 
 -- the same for a viewer and a day that are checked first
-abbrev pub tight-shown : ℕ → (ℕ → ℕ → ℕ → Bool) → ℕ → ℤ → ℤ → ℤ → Result Shown Fault
-tight-shown known says label value viewer day = then (viewer-number viewer) (λ v. then (day-number day) (λ d. Ok (tight-for known says label value v d)))
+abbrev pub confidential-shown : ℕ → (ℕ → ℕ → ℕ → Bool) → ℕ → ℤ → ℤ → ℤ → Result Shown Fault
+confidential-shown known says label value viewer day = then (viewer-number viewer) (λ v. then (day-number day) (λ d. Ok (confidential-for known says label value v d)))

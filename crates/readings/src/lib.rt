@@ -2,7 +2,7 @@
 ghost use mathlib.Core.Path.{_≡_};
 ghost use Rattle.labels.specs.Guards.{literal-guard};
 ghost use Rattle.labels.specs.Literals.{plus, minus};
-ghost use Rattle.readings.specs.Readings.{described, null, shown-at, tight-shown};
+ghost use Rattle.readings.specs.Readings.{shown-text, null, shown-at, confidential-shown};
 ghost use Rattle.std.specs.declared.option.Option.the-variants.{Some};
 use faults::Fault;
 use labels::Guard;
@@ -38,7 +38,7 @@ pub enum Shown {
 }
 
 pub impl fmt::Display for Shown as ShownDisplay {
-    ghost shown = { λ s. Some (described s) };
+    ghost shown = { λ s. Some (shown-text s) };
 
     fn fmt<W: fmt::Write>(&self, f: &mut fmt::Formatter<W>) -> fmt::Result {
         match *self {
@@ -51,7 +51,7 @@ pub impl fmt::Display for Shown as ShownDisplay {
 
 impl<G: Guard> Reading<G> {
     // The tool's value for those with the label, the null for the others.
-    pub fn tight(label: u32, value: i32) -> Reading<G>
+    pub fn confidential(label: u32, value: i32) -> Reading<G>
         ensures measured_guard { λ r. ⌜ admitted (r .measured .guard) ≡ literal-guard known (plus label) ⌝ }
         ensures measured_value { λ r. ⌜ r .measured .value ≡ value ⌝ }
         ensures other_guard { λ r. ⌜ admitted (r .«stand_in» .guard) ≡ literal-guard known (minus label) ⌝ }
@@ -90,18 +90,19 @@ impl<G: Guard> Reading<G> {
     }
 }
 
-// What the viewer is shown of a tight reading on the day: whoever the policy gives the label sees the
-// tool's value, and everyone else the null.
-pub fn show_tight<G: Guard, P: Policy>(
+// What the viewer is shown of a confidential reading on the day: whoever the policy gives the label
+// sees the tool's value, and everyone else the null. Nobody is shown anything under a label that the
+// guard kind does not know.
+pub fn show_confidential<G: Guard, P: Policy>(
     policy: &P,
     label: u32,
     value: i32,
     viewer: i32,
     day: i32,
 ) -> Result<Shown, Fault>
-    ensures { λ r. ⌜ r ≡ tight-shown known (says (now (policy .entry))) label value viewer day ⌝ }
+    ensures { λ r. ⌜ r ≡ confidential-shown known (says (now (policy .entry))) label value viewer day ⌝ }
 {
     let pass = Pass::<G>::resolve(policy, viewer, day)?;
-    let reading = Reading::<G>::tight(label, value);
+    let reading = Reading::<G>::confidential(label, value);
     Ok(reading.shown(pass))
 }

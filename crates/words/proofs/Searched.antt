@@ -52,10 +52,3 @@ some-choice-by p c h e = some-choice-one p .1 (c, h, e)
 -- no choice passes
 pub no-choice : (p : ℕ → Bool) → ((c : ℕ) → p c ≡ false) → some-choice p ≡ false
 no-choice p none = never-true (some-choice p) (λ t. let w = some-choice-one p .0 t in both-ways (p (w .0)) (none (w .0)) (w .2))
-
--- tests that agree at every choice
-pub some-choice-same : (p q : ℕ → Bool) → ((c : ℕ) → c < 2 ^ 64 → p c ≡ q c) → some-choice p ≡ some-choice q
-some-choice-same p q e =
-    same-truth (some-choice p) (some-choice q)
-    (λ t. let w = some-choice-one p .0 t in some-choice-by q (w .0) (w .1) (sym (e (w .0) (w .1)) ∙ w .2))
-    (λ t. let w = some-choice-one q .0 t in some-choice-by p (w .0) (w .1) (e (w .0) (w .1) ∙ w .2))

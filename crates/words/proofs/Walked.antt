@@ -5,7 +5,7 @@ use mathlib.Core.List.{List, [], _∷_, _++_}
 use Prim.Native.Nat.{ℕ, _+_, _<_}
 use lib.ListN.{length, getD, take, drop, take-append-drop}
 use Rattle.std.proofs.shelf.Lists.{take-more}
-use Rattle.std.proofs.shelf.Tests.{and-right, and-left, or-right, or-left}
+use Rattle.std.proofs.shelf.Tests.{or-right, or-left}
 use Rattle.words.specs.Lists.{all, any}
 
 module _ {X : Type 0} (p : X → Bool) where
@@ -27,13 +27,7 @@ module _ {X : Type 0} (p : X → Bool) where
     any-more =
         ap (any p) (take-more xs i d within) ∙ any-append (take i xs) (getD xs i d ∷ []) ∙ ap (λ b. any p (take i xs) || b) (or-false (p (getD xs i d)))
 
-    -- an element that fails settles the test at every element, and one that passes that at some
-    pub all-fails : p (getD xs i d) ≡ false → all p xs ≡ false
-    all-fails e =
-        ap (all p) (sym (take-append-drop (i + 1) xs))
-        ∙ all-append (take (i + 1) xs) (drop (i + 1) xs)
-        ∙ and-left (all p (take (i + 1) xs)) (all p (drop (i + 1) xs)) (all-more ∙ and-right (all p (take i xs)) (p (getD xs i d)) e)
-
+    -- an element that passes settles the test at some element
     pub any-passes : p (getD xs i d) ≡ true → any p xs ≡ true
     any-passes e =
         ap (any p) (sym (take-append-drop (i + 1) xs))

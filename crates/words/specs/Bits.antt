@@ -4,7 +4,7 @@ use mathlib.Core.Bool.{Bool, true, false, cond, _&&_, _||_}
 use lib.Bits.{bitOr}
 use lib.Dec.{eqb, ltb}
 
--- the label is in the choice
+-- bit l of the word is 1; of a choice: label l is in it
 unfoldable pub has : ℕ → ℕ → Bool
 has choice label = eqb (choice / 2 ^ label % 2) 1
 

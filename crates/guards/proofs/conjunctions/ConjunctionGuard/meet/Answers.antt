@@ -1,7 +1,7 @@
 use mathlib.Core.Path.{ap, _∙_}
 use lib.Bits.{bitOr, or-lt}
 use borrow.Author.Needs.{needs}
-use Rattle.guards.proofs.Conjoined.{admits, settle-admits, meet-admits}
+use Rattle.guards.proofs.Conjoined.{admits, canonical-admits, meet-admits}
 use Rattle.guards.proofs.conjunctions.ConjunctionGuard.meet.Needs as need
 
 pub returns : need.returns
@@ -11,7 +11,7 @@ returns c =
     record {
       admitted =
           ap admits (c .joined .ensures)
-          ∙ settle-admits (bitOr (a .required) (b .required)) (bitOr (a .excluded) (b .excluded)) (or-lt 64 (a .required) (b .required) (search needs) (search needs)) (or-lt 64 (a .excluded) (b .excluded) (search needs) (search needs))
+          ∙ canonical-admits (bitOr (a .required) (b .required)) (bitOr (a .excluded) (b .excluded)) (or-lt 64 (a .required) (b .required) (search needs) (search needs)) (or-lt 64 (a .excluded) (b .excluded) (search needs) (search needs))
           ∙ meet-admits (a .required) (a .excluded) (b .required) (b .excluded);
       value = c .joined .ensures;
     }
