@@ -4,7 +4,7 @@ ghost use mathlib.Core.Path.{_≡_};
 ghost use mathlib.Core.Bool.{true};
 ghost use Rattle.guards.specs.Conjunctions.{words, literal-words, meet-words};
 ghost use Rattle.labels.specs.Literals.{opposite};
-ghost use Rattle.cases.specs.Worked.{Meanings, Worked-cases};
+ghost use Rattle.cases.specs.Worked.{Meanings, Changes, Worked-cases};
 use guards::Conjunction;
 use guards::ConjunctionGuard;
 use guards::TruthTable;
@@ -34,6 +34,7 @@ fn met_with_opposite(literal: Literal) -> Conjunction
 // answers accordingly.
 pub fn worked_cases() -> Answers
     ensures meant { λ _. ⌜ Meanings ⌝ }
+    ensures changed { λ _. ⌜ Changes ⌝ }
     ensures proved { λ _. ⌜ Worked-cases ⌝ }
     ensures run { λ r. ⌜ r ≡ record { «contradiction_is_empty» = true; «fifth_label» = 0xFFFFFFFF00000000 } ⌝ }
 {
