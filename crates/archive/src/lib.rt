@@ -1,4 +1,6 @@
 // The archive: two tables, the four statements on them, and what every viewer can learn of them.
+#![tactic(auto)]
+
 pub mod changes;
 mod gathering;
 mod rewriting;

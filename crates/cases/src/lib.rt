@@ -1,5 +1,7 @@
 // Worked cases: small facts about the definitions that a reader can follow by hand, stated together
 // and proved.
+#![tactic(auto)]
+
 ghost use Rattle.std.specs.Prelude.{◌≡◌, true};
 ghost use Rattle.guards.specs.Conjunctions.{words, literal_words, meet_words};
 ghost use Rattle.labels.specs.Literals.{opposite};

@@ -1,4 +1,6 @@
 // What a call answers when it turns its caller back: which refusal, on which line, at which place.
+#![tactic(auto)]
+
 ghost use Rattle.std.specs.Prelude.{◌≡◌, Some, Decides, ◌==◌};
 ghost use Rattle.faults.specs.Faults.{code, fault, fault_text};
 ghost use Rattle.std.specs.Cmp.Rules.{comparing};

@@ -1,6 +1,8 @@
 // Fozhyral: a faceted archive of wireline log rows. So far it shows on one reading what labels,
 // guards, policies and passes decide: a well is confidential until its release day, and each viewer is shown
 // either the tool's value or the null that stands in for it.
+#![tactic(auto)]
+
 use cases::worked_cases;
 use guards::{Conjunction, TruthTable};
 use labels::Guard;

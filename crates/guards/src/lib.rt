@@ -1,4 +1,6 @@
 // The two kinds of guard: conjunctions over 64 labels, and truth tables over six.
+#![tactic(auto)]
+
 pub mod conjunctions;
 pub mod truth_tables;
 

@@ -1,4 +1,6 @@
 // A table of rows with an index over its first column.
+#![tactic(auto)]
+
 mod entries;
 mod index;
 pub mod tables;

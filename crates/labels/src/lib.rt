@@ -1,4 +1,6 @@
 // Labels, choices, literals and paths, and what every kind of guard over them offers.
+#![tactic(auto)]
+
 pub mod choices;
 pub mod kinds;
 pub mod literals;

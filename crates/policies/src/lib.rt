@@ -1,5 +1,7 @@
 // Who may see what, and when: policies say which labels a viewer holds on a day, and a pass fixes
 // the answer for one asking.
+#![tactic(auto)]
+
 pub mod combined;
 pub mod partners;
 pub mod passes;

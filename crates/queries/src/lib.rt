@@ -1,4 +1,6 @@
 // Tests and queries: what a statement asks of a row, and what an asking shows.
+#![tactic(auto)]
+
 pub mod arms;
 mod checks;
 pub mod nodes;

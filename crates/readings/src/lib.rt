@@ -1,4 +1,6 @@
 // A reading with two facets, and which of them a pass is shown.
+#![tactic(auto)]
+
 ghost use Rattle.std.specs.Prelude.{◌≡◌, Some};
 ghost use Rattle.labels.specs.Guards.{literal_guard};
 ghost use Rattle.labels.specs.Literals.{plus, minus};

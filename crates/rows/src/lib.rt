@@ -1,4 +1,6 @@
 // Rows, and the one list that carries entries of every kind.
+#![tactic(auto)]
+
 pub mod cells;
 pub mod lists;
 

@@ -1,4 +1,6 @@
 // Stores of faceted rows: what every store offers, the heap, and pruning.
+#![tactic(auto)]
+
 pub mod heaps;
 pub mod pruned;
 pub mod tables;

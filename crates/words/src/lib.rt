@@ -1,4 +1,6 @@
 // Words of 64 bits, read bit by bit.
+#![tactic(auto)]
+
 ghost use Rattle.std.specs.Prelude.{◌≡◌, ◌%◌, ◌==◌};
 ghost use Rattle.words.specs.Bits.{has};
 
