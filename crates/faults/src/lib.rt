@@ -5,7 +5,7 @@ ghost use Rattle.std.specs.Prelude.{◌≡◌, Some, Decides, ◌==◌};
 ghost use Rattle.faults.specs.Faults.{code, fault, fault_text};
 ghost use Rattle.std.specs.Cmp.Rules.{comparing};
 ghost use Rattle.std.proofs.Common.{rules};
-ghost use Rattle.std.specs.Cmp as Keys;
+ghost use Rattle.std.specs.Ordering.{on};
 
 use std::error::Error;
 use std::fmt;
@@ -87,11 +87,14 @@ fn same_number(a: Refusal, b: Refusal) -> bool
 
 // No two refusals have one number, so the numbers decide.
 impl PartialEq for Refusal {
-    ghost equals = { λ a b r. Decides r (a ≡ b) };
+    ghost eq = { on (λ r. (code r).number) ◌==◌ };
 
-    ghost laws = { Keys.partial_equiv_from_equiv (Prim.search (comparing, rules)) };
+    ghost laws = { Prim.search (comparing, rules) };
 
-    fn eq(&self, other: &Refusal) -> bool {
+    fn eq(&self, other: &Refusal) -> bool
+        ensures value { result ≡ ((code self.now).number == (code other.now).number) }
+        ensures equal { Decides result (self.now ≡ other.now) }
+    {
         same_number(*self, *other)
     }
 }

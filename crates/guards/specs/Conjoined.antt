@@ -1,11 +1,11 @@
 -- The conjunction kind: what its words admit. Assumes nothing.
-use Rattle.std.specs.Prelude.{◌≡◌, ℕ, ◌^◌, ◌<◌, ◌≤◌, Bool, true, false, cond, not, ◌&&◌, ◌||◌, Decides, ◌==◌, ◌≢◌, bit_and, bit_or, nat_lt, refl}
+use Rattle.std.specs.Prelude.{◌≡◌, ℕ, ◌^◌, ◌<◌, ◌≤◌, Bool, true, false, cond, not, ◌&&◌, ◌||◌, ◌==◌, ◌≢◌, bit_and, bit_or, nat_lt, refl}
 use Rattle.std.proofs.Common.{sym, ap, ap₂, ◌∙◌, ⊎_elim, lt_of_le_of_lt, arith, pow_pos}
 use Rattle.std.proofs.Math.Path.{fun_ext}
 use Rattle.std.proofs.lemmas.Nat.{and_le_r}
 use Rattle.std.specs.Int.Bits.{and_lt}
-use Rattle.std.proofs.lemmas.Bool.{eqb-true, eqb-false, eq-eqb, ne_eqb, and_parts, and_from, or_cases, cases_lt, both_ways, lt-ltb, le-ltb, cond-true, cond-false, false≢true}
-use Rattle.words.specs.Bits.{has, every_label, some_choice}
+use Rattle.std.proofs.lemmas.Bool.{eqb-true, eqb-false, eq-eqb, and_parts, and_from, cases_lt, lt-ltb, le-ltb, cond-true, cond-false, false≢true}
+use Rattle.words.specs.Bits.{has, some_choice}
 use Rattle.guards.specs.Conjunctions.{Words, words, implies, as_asked, conjunction_admits, full, empty_words, canonical, is_canonical, literal_words, one_label}
 use Rattle.labels.specs.Guards.{everything, literal_guard, meet, empty, IgnoresFrom}
 use Rattle.labels.specs.Literals.{signed, holds}

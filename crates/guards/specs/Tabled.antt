@@ -1,5 +1,5 @@
 -- The table kind: what its word admits. Assumes nothing.
-use Rattle.std.specs.Prelude.{◌≡◌, ℕ, ◌-◌, ◌%◌, ◌^◌, ◌<◌, ◌≤◌, Bool, true, false, cond, not, ◌&&◌, ◌==◌, bit_and, nat_eq, refl}
+use Rattle.std.specs.Prelude.{◌≡◌, ℕ, ◌-◌, ◌%◌, ◌^◌, ◌<◌, ◌≤◌, Bool, true, cond, not, ◌&&◌, ◌==◌, bit_and, nat_eq, refl}
 use Rattle.std.proofs.Common.{sym, ap, ap₂, ◌∙◌, ⊎_elim, arith, pow_pos}
 use Rattle.std.proofs.Math.Path.{fun_ext}
 use Rattle.std.proofs.lemmas.Nat.{mod_below}
@@ -7,7 +7,7 @@ use Rattle.std.proofs.lemmas.Bool.{eqb-true, eq-eqb, lt-ltb, le-ltb, cases_lt, b
 use Rattle.labels.specs.declared.literals.Literal.{Literal}
 use Rattle.labels.specs.declared.literals.Sign.{Sign}
 use Rattle.labels.specs.declared.literals.Sign.TheVariants.{Plus, Minus}
-use Rattle.words.specs.Bits.{has, word_of, all_below, some_choice}
+use Rattle.words.specs.Bits.{has, word_of, all_below}
 use Rattle.labels.specs.Guards.{everything, literal_guard, meet, empty, IgnoresFrom}
 use Rattle.labels.specs.Literals.{signed, holds}
 use Rattle.guards.specs.Tables.{table_admits, table_word, signed_word, literal_word}

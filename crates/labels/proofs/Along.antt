@@ -1,15 +1,11 @@
 -- Along a path: its guard, and its room. Assumes nothing.
-use Rattle.std.proofs.Common.{◌≡◌, ℕ, ◌+◌, ◌<◌, ◌≤◌, Bool, true, ◌&&◌, ltb, List, [], ◌∷◌, length, get_or, take, Ok, Err, Result, sym, refl, ap, ◌∙◌, ap₂, ⊎_elim, arith}
+use Rattle.std.proofs.Common.{◌≡◌, ℕ, ◌+◌, ◌<◌, Bool, true, ◌&&◌, ltb, List, [], ◌∷◌, length, get_or, take, sym, refl, ap, ◌∙◌, ap₂}
 use mathlib.Core.Path.{fun_ext}
-use Rattle.std.proofs.lemmas.Bool.{le-ltb, cases_lt, cond-false, and_parts}
-use Rattle.faults.specs.declared.Fault.{Fault}
-use Rattle.faults.specs.declared.Refusal.TheVariants.{CountOutOfLimits}
+use Rattle.std.proofs.lemmas.Bool.{and_parts}
 use Rattle.labels.specs.declared.literals.Literal.{Literal}
-use Rattle.faults.specs.Faults.{fault}
 use Rattle.labels.specs.Guards.{literal_guard, meet}
-use Rattle.words.specs.Lists.{all}
 use Rattle.labels.specs.Literals.{holds}
-use Rattle.labels.specs.Paths.{path_holds, path_guard, all_known, room}
+use Rattle.labels.specs.Paths.{path_holds, path_guard, all_known}
 use Rattle.words.proofs.Walked.{all_more}
 
 -- where the labels are known, the guard of a path admits the choices at which it holds

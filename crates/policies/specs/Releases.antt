@@ -1,5 +1,5 @@
 -- The release policy: a release day for each label. Assumes nothing.
-use Rattle.std.specs.Prelude.{ℕ, Bool, true, false, cond, List, set, ℤ, Ok, Result, nat_le, slice_index_or, slice_set}
+use Rattle.std.specs.Prelude.{ℕ, Bool, true, false, cond, List, ℤ, Ok, Result, nat_le, slice_index_or, slice_set}
 use Rattle.faults.specs.declared.Fault.{Fault}
 use Rattle.policies.specs.declared.releases.LabelRecord.{LabelRecord}
 use Rattle.policies.specs.Ranges.{release_day_number, policy_label, then}

@@ -19,8 +19,8 @@ pub struct Pass<G> {
 
 // The labels of the kind for which the policy says yes.
 fn choice_for<G: Guard, P: Policy>(policy: &P, viewer: Viewer, day: Day) -> Choice
-    ensures value { result.bits ≡ choice_for known (says policy.now) viewer.number day.number }
-    ensures labels { HoldsWhatIsAllowed known (says policy.now) viewer.number day.number result.bits }
+    ensures value { result.bits ≡ choice_for G.known (P.says policy.now) viewer.number day.number }
+    ensures labels { HoldsWhatIsAllowed G.known (P.says policy.now) viewer.number day.number result.bits }
 {
     let mut choice = Choice { bits: 0 };
     for label in 0..G::label_count() {
@@ -34,8 +34,8 @@ fn choice_for<G: Guard, P: Policy>(policy: &P, viewer: Viewer, day: Day) -> Choi
 impl<G: Guard> Pass<G> {
     // Asks the policy about each label that the guard kind knows.
     pub fn resolve<P: Policy>(policy: &P, viewer: i32, day: i32) -> Result<Pass<G>, Fault>
-        ensures value { MatchResult result (λ p. resolved known (says policy.now) viewer day ≡ Ok p.choice.bits) (λ f. resolved known (says policy.now) viewer day ≡ Err f) }
-        ensures labels { IfOk result (λ p. (v d : ℕ) → viewer_number viewer ≡ Ok v → day_number day ≡ Ok d → HoldsWhatIsAllowed known (says policy.now) v d p.choice.bits) }
+        ensures value { MatchResult result (λ p. resolved G.known (P.says policy.now) viewer day ≡ Ok p.choice.bits) (λ f. resolved G.known (P.says policy.now) viewer day ≡ Err f) }
+        ensures labels { IfOk result (λ p. (v d : ℕ) → viewer_number viewer ≡ Ok v → day_number day ≡ Ok d → HoldsWhatIsAllowed G.known (P.says policy.now) v d p.choice.bits) }
     {
         let viewer = Viewer::new(viewer)?;
         let day = Day::new(day)?;

@@ -51,9 +51,9 @@ impl fmt::Display for Shown {
 impl<G: Guard> Reading<G> {
     // The tool's value for those with the label, the null for the others.
     pub fn confidential(label: u32, value: i32) -> Reading<G>
-        ensures measured_guard { admitted result.measured.guard ≡ literal_guard known (plus label) }
+        ensures measured_guard { G.admitted result.measured.guard ≡ literal_guard G.known (plus label) }
         ensures measured_value { result.measured.value ≡ value }
-        ensures other_guard { admitted result.stand_in.guard ≡ literal_guard known (minus label) }
+        ensures other_guard { G.admitted result.stand_in.guard ≡ literal_guard G.known (minus label) }
         ensures other_value { result.stand_in.value ≡ null }
     {
         Reading {
@@ -76,7 +76,7 @@ impl<G: Guard> Reading<G> {
 
     // The facet that the pass is shown. The pass is used up.
     pub fn shown(&self, pass: Pass<G>) -> Shown
-        ensures { result ≡ shown_at (admitted self.now.measured.guard) self.now.measured.value (admitted self.now.stand_in.guard) self.now.stand_in.value pass.choice.bits }
+        ensures { result ≡ shown_at (G.admitted self.now.measured.guard) self.now.measured.value (G.admitted self.now.stand_in.guard) self.now.stand_in.value pass.choice.bits }
     {
         let choice = pass.spend();
         if self.measured.guard.admits(choice) {
@@ -99,7 +99,7 @@ pub fn show_confidential<G: Guard, P: Policy>(
     viewer: i32,
     day: i32,
 ) -> Result<Shown, Fault>
-    ensures { result ≡ confidential_shown known (says policy.now) label value viewer day }
+    ensures { result ≡ confidential_shown G.known (P.says policy.now) label value viewer day }
 {
     let pass = Pass::<G>::resolve(policy, viewer, day)?;
     let reading = Reading::<G>::confidential(label, value);

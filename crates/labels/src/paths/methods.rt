@@ -10,7 +10,7 @@ use faults::{Fault, Refusal};
 
 // The guard, for the choices at which the literal holds too.
 fn narrowed<G: Guard>(guard: G, literal: Literal) -> G
-    ensures { admitted result ≡ meet (admitted guard) (literal_guard known literal) }
+    ensures { G.admitted result ≡ meet (G.admitted guard) (literal_guard G.known literal) }
 {
     guard.meet(G::of_literal(literal))
 }
@@ -70,8 +70,8 @@ impl Path {
     // The meet of the literals' guards. Where each label is known, it admits the choices at which the
     // path holds.
     pub fn guard<G: Guard>(&self) -> G
-        ensures admitted { admitted result ≡ path_guard known (literals self.now) }
-        ensures holds { all_known known (literals self.now) ≡ true → admitted result ≡ path_holds (literals self.now) }
+        ensures admitted { G.admitted result ≡ path_guard G.known (literals self.now) }
+        ensures holds { all_known G.known (literals self.now) ≡ true → G.admitted result ≡ path_holds (literals self.now) }
     {
         let literals = self.as_slice();
         let mut guard = G::everything();

@@ -7,5 +7,5 @@ use Rattle.guards.proofs.truth_tables.TruthTableGuard.of_literal.Goals as goal
 pub returns : goal.returns
 returns c =
     let literal = c.args.literal in
-    let e = ap table_admits c.of-holding.ensures ∙ literal_admits literal in
-    record { admitted = e; value = word_by c.of-holding.result.word (literal_guard 6 literal) (search rules) e }
+    let e = ap table_admits c.of_holding.ensures ∙ literal_admits literal in
+    record { admitted = e; value = word_by c.of_holding.result.word (literal_guard 6 literal) (search rules) e }

@@ -10,5 +10,5 @@ pub returns : goal.returns
 returns g c =
     let n = g.G.Guard.known in
     let path = literals c.args.self.now in
-    let all : g.G.Guard.admitted c.loop-literal.guard ≡ path_guard n path = c.loop-literal.invariant ∙ ap (path_guard n) (take_all _ _ c.loop-literal-test.false ∙ c.as-slice-literals.ensures) in
+    let all : g.G.Guard.admitted c.loop-literal.guard ≡ path_guard n path = c.loop-literal.invariant ∙ ap (path_guard n) (take_all _ _ c.loop-literal-test.false ∙ c.as_slice-literals.ensures) in
     record { admitted = all; holds = λ k. all ∙ path_guard_holds n path k }

@@ -8,7 +8,7 @@ pub returns-then-is : goal.returns-then-is
 returns-then-is c =
     let v = c.args.viewer in
     let l = c.args.label in
-    sym (any_passes (λ p. is_pair p v l) _ _ _ c.loop-pair-test.true (sym c.if-is.ensures)) ∙ ap (λ ps. listed ps v l) c.as-slice-pairs.ensures.value
+    sym (any_passes (λ p. is_pair p v l) _ _ _ c.loop-pair-test.true (sym c.if-is.ensures)) ∙ ap (λ ps. listed ps v l) c.as_slice-pairs.ensures.value
 
 pub loop-pair-preserved : goal.loop-pair-preserved
 loop-pair-preserved c =
@@ -16,4 +16,4 @@ loop-pair-preserved c =
 
 pub returns : goal.returns
 returns c =
-    sym c.loop-pair.invariant ∙ ap (λ ps. listed ps c.args.viewer c.args.label) (take_all _ _ c.loop-pair-test.false ∙ c.as-slice-pairs.ensures.value)
+    sym c.loop-pair.invariant ∙ ap (λ ps. listed ps c.args.viewer c.args.label) (take_all _ _ c.loop-pair-test.false ∙ c.as_slice-pairs.ensures.value)
