@@ -1,5 +1,5 @@
 -- The checks of a statement, one after the other. Assumes nothing.
-use Rattle.std.proofs.Common.{◌≡◌, ℕ, suc, ◌+◌, ◌<◌, ◌≤◌, Bool, true, false, cond, ltb, leb, List, [], ◌∷◌, ◌++◌, map, length, get_or, drop, Some, None, Ok, Err, Option, Result, sym, refl, ap, ◌∙◌, subst, ⊎_elim, add-one, arith}
+use Rattle.std.proofs.Common.{◌≡◌, ℕ, suc, ◌+◌, ◌<◌, ◌≤◌, Bool, true, false, cond, ltb, leb, List, [], ◌∷◌, ◌++◌, map, length, get_or, drop, Some, None, Ok, Err, Option, Result, sym, refl, ap, ◌∙◌, subst, add-one, arith}
 use Rattle.std.proofs.lemmas.List.{append-nil, drop_all, drop_more, length-append, map-append}
 use Rattle.std.specs.List.Sorted.{IsPermutation}
 use Rattle.std.proofs.lemmas.List.Sorted.{IsPermutation-refl}
@@ -12,10 +12,10 @@ use Rattle.rows.specs.declared.cells.Cells.{Cells}
 use Rattle.archive.specs.declared.changes.Change.{Change}
 use Rattle.faults.specs.Faults.{fault}
 use Rattle.labels.specs.Paths.{path_guard}
-use Rattle.queries.specs.Tests.{answered, first_told, test_fault, unless}
+use Rattle.queries.specs.Tests.{answered, first_told, test_fault}
 use Rattle.stores.specs.Changes.{Add, Appended, SameMaking}
-use Rattle.stores.specs.Tables.{Facet, Table, AllTouch, Bounded, count, touches}
-use Rattle.archive.specs.Rules.{NowHolds, add_fault, added_rows, at_kept, change_fault, columns_fault, path_fault, path_fault_from, rewritten_rows, room_fault, touching, under}
+use Rattle.stores.specs.Tables.{Facet, Table, Bounded, count, touches}
+use Rattle.archive.specs.Rules.{NowHolds, add_fault, added_rows, at_kept, change_fault, columns_fault, path_fault, path_fault_from, rewritten_rows, room_fault}
 use Rattle.archive.specs.Turns.{view}
 use Rattle.archive.proofs.Front.{same_making}
 use Rattle.archive.proofs.Views.{view_appended}

@@ -1,13 +1,13 @@
 -- Counting the parts of rows, turn by turn. Assumes nothing.
-use Rattle.std.proofs.Common.{◌≡◌, ℕ, suc, ◌+◌, ◌*◌, ◌<◌, ◌≤◌, Bool, true, false, cond, List, [], ◌∷◌, ◌++◌, map, length, get_or, take, drop, sym, refl, ap, ◌∙◌, ap₂, add-one, arith}
+use Rattle.std.proofs.Common.{◌≡◌, ℕ, ◌+◌, ◌<◌, ◌≤◌, Bool, true, false, cond, List, [], ◌∷◌, ◌++◌, map, length, get_or, take, drop, sym, ap, ◌∙◌, ap₂, arith}
 use Rattle.std.specs.List.{flat_map}
-use Rattle.std.proofs.lemmas.List.{drop_more, drop_all, take_more, take_all, flat_map_more, length-append, length-map}
+use Rattle.std.proofs.lemmas.List.{drop_more, drop_all, take_more, flat_map_more, length-append, length-map}
 use Rattle.std.proofs.lemmas.Bool.{cond-true}
 use Rattle.labels.specs.declared.literals.Literal.{Literal}
 use Rattle.rows.specs.declared.cells.Cells.{Cells}
 use Rattle.labels.specs.Guards.{literal_guard, meet}
 use Rattle.labels.specs.Literals.{opposite}
-use Rattle.stores.specs.Tables.{Facet, Table, touches, row_at, no_row, count}
+use Rattle.stores.specs.Tables.{Facet, Table, touches}
 use Rattle.archive.specs.declared.changes.Change.{Change}
 use Rattle.archive.specs.declared.changes.Change.TheVariants.{Set, Cut}
 use Rattle.archive.specs.Rules.{changed, outside}

@@ -1,7 +1,7 @@
 -- Rows gathered at the front of a table, and the rows behind them taken out. Assumes nothing.
-use Rattle.std.proofs.Common.{◌≡◌, ℕ, suc, ◌+◌, ◌-◌, ◌<◌, ◌≤◌, Bool, true, false, List, [], ◌∷◌, ◌++◌, map, length, get_or, take, drop, set, filter, Result, sym, refl, ap, ◌∙◌, subst, ap₂, ⊎_elim, add-one, arith}
+use Rattle.std.proofs.Common.{◌≡◌, ℕ, ◌+◌, ◌-◌, ◌<◌, ◌≤◌, Bool, true, false, List, [], ◌∷◌, length, get_or, take, set, filter, Result, sym, refl, ap, ◌∙◌, subst, ap₂, arith}
 use Rattle.std.proofs.lemmas.List.Filters.{FiltersInPlace, FiltersInPlace-all, FiltersInPlace-more_no, FiltersInPlace-more_set}
-use Rattle.std.proofs.lemmas.List.{set-get_or, take_all, take-take, length-map, length-take, nil_from_length}
+use Rattle.std.proofs.lemmas.List.{set-get_or, take_all, take-take, length-map, length-take}
 use Rattle.faults.specs.declared.Fault.{Fault}
 use Rattle.labels.specs.declared.literals.Literal.{Literal}
 use Rattle.queries.specs.declared.nodes.Node.{Node}

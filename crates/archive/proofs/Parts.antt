@@ -1,9 +1,8 @@
 -- What becomes of a row depends only on how it shows at the choices that are kept. Assumes nothing.
-use Rattle.std.proofs.Common.{◌≡◌, ℕ, suc, ◌+◌, ◌<◌, ◌≤◌, Bool, true, false, cond, ◌&&◌, List, [], ◌∷◌, ◌++◌, map, length, filter, sym, refl, ap, ◌∙◌, ap₂, ⊎_elim, arith}
+use Rattle.std.proofs.Common.{◌≡◌, ℕ, Bool, true, false, cond, ◌&&◌, List, [], ◌∷◌, ◌++◌, map, sym, refl, ap, ◌∙◌, ap₂}
 use mathlib.Core.Path.{fun_ext}
 use mathlib.Core.Bool.{and_assoc}
-use Rattle.std.specs.List.{flat_map}
-use Rattle.std.proofs.lemmas.List.{map-append, length-append, length-map}
+use Rattle.std.proofs.lemmas.List.{map-append}
 use Rattle.labels.specs.declared.literals.Literal.{Literal}
 use Rattle.queries.specs.declared.nodes.Node.{Node}
 use Rattle.rows.specs.declared.cells.Cells.{Cells}
@@ -14,9 +13,8 @@ use Rattle.labels.specs.Paths.{path_guard}
 use Rattle.queries.specs.Tests.{passes}
 use Rattle.stores.specs.Tables.{Facet, Table, touches, empty_table}
 use Rattle.words.specs.Bits.{some_choice}
-use Rattle.archive.specs.Rules.{at_kept, changed, under, pieces, touching, inside, outside, concerned, rewritten}
-use Rattle.archive.specs.Turns.{parts, some_left}
-use Rattle.archive.proofs.Views.{kept_twice}
+use Rattle.archive.specs.Rules.{at_kept, changed, under, outside, concerned, rewritten}
+use Rattle.archive.specs.Turns.{parts}
 
 -- tables that keep the same choices make the same of a row
 pub same_rewritten : (a b : Table) (known : ℕ) (path : List Literal) (test : List Node) (change : Change) → b.keeps ≡ a.keeps → rewritten b known path test change ≡ rewritten a known path test change

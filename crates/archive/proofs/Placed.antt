@@ -1,19 +1,19 @@
 -- The parts of rows put in the place of the rows. Assumes nothing.
-use Rattle.std.proofs.Common.{◌≡◌, ℕ, suc, ◌+◌, ◌-◌, ◌<◌, ◌≤◌, Bool, true, false, cond, ◌&&◌, ◌⊎◌, List, [], ◌∷◌, ◌++◌, map, length, get_or, take, drop, set, ℤ, filter, Result, sym, refl, ap, ◌∙◌, subst, ap₂, ⊎_elim, add-one, arith}
+use Rattle.std.proofs.Common.{◌≡◌, ℕ, suc, ◌+◌, ◌<◌, ◌≤◌, Bool, true, false, cond, List, [], ◌∷◌, ◌++◌, map, length, get_or, drop, set, ℤ, filter, Result, sym, refl, ap, ◌∙◌, subst, ap₂, arith}
 use Rattle.std.specs.List.Sorted.{IsPermutation}
 use Rattle.std.specs.List.{flat_map}
-use Rattle.std.proofs.lemmas.List.{append_assoc, append-nil, map-append, length-append, length-map, length-set}
-use Rattle.std.proofs.lemmas.Bool.{and_parts, both_ways, cases_Bool, cond-true, cond-false}
+use Rattle.std.proofs.lemmas.List.{append_assoc, append-nil, map-append, length-append, length-map}
+use Rattle.std.proofs.lemmas.Bool.{cond-true, cond-false}
 use Rattle.faults.specs.declared.Fault.{Fault}
 use Rattle.labels.specs.declared.literals.Literal.{Literal}
 use Rattle.queries.specs.declared.nodes.Node.{Node}
 use Rattle.rows.specs.declared.cells.Cells.{Cells}
 use Rattle.archive.specs.declared.changes.Change.{Change}
-use Rattle.archive.specs.declared.changes.Change.TheVariants.{Set, Cut}
+use Rattle.archive.specs.declared.changes.Change.TheVariants.{Set}
 use Rattle.labels.specs.Guards.{literal_guard, meet}
 use Rattle.labels.specs.Literals.{opposite}
 use Rattle.rows.specs.Cells.{with_cell}
-use Rattle.stores.specs.Changes.{SameMaking, Add, Put}
+use Rattle.stores.specs.Changes.{Add, Put}
 use Rattle.stores.specs.Tables.{Facet, Table, count, row_at, no_row, touches, AllTouch}
 use Rattle.stores.proofs.Touching.{same_touches}
 use Rattle.words.specs.Lists.{all}
@@ -22,7 +22,7 @@ use Rattle.archive.specs.Rules.{at_kept, changed, under, inside, outside, concer
 use Rattle.archive.specs.Turns.{view, parts, some_left, is_left, placed, with_part, inside_then, spread_out, Shows, Placing, Room}
 use Rattle.archive.proofs.Counted.{outside_turn}
 use Rattle.archive.proofs.Front.{same_making, making_on, unmoved}
-use Rattle.archive.proofs.Moves.{all_parts, apart, count_parts, first_of, others_of, joined_kept, joined_map, joined_same, kept_left, map_joined, placed_length, placed_more, placed_none, spread_all, spread_at, spread_length, spread_more, spread_none, spread_room, spread_to}
+use Rattle.archive.proofs.Moves.{all_parts, apart, joined_kept, joined_map, joined_same, kept_left, map_joined, placed_length, placed_more, placed_none, spread_all, spread_at, spread_length, spread_more, spread_none, spread_room, spread_to}
 use Rattle.archive.proofs.Parts.{parts_alike, same_parts}
 use Rattle.archive.proofs.Views.{kept_twice, view_appended, view_at, view_length, view_replaced}
 

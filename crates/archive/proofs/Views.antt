@@ -1,13 +1,11 @@
 -- How the changes of a store show at the choices that it keeps. Assumes nothing.
-use Rattle.std.proofs.Common.{◌≡◌, ℕ, suc, ◌+◌, ◌-◌, ◌<◌, ◌≤◌, Bool, true, false, ◌&&◌, List, [], ◌∷◌, ◌++◌, map, length, get_or, take, drop, set, sym, refl, ap, ◌∙◌, subst, ap₂, add-one, arith}
+use Rattle.std.proofs.Common.{◌≡◌, ℕ, suc, ◌<◌, Bool, true, false, ◌&&◌, [], ◌∷◌, ◌++◌, map, length, get_or, take, drop, set, sym, refl, ap, ◌∙◌, ap₂, arith}
 use mathlib.Core.Path.{fun_ext}
-use mathlib.Core.Bool.{and_assoc}
-use Rattle.std.specs.List.Sorted.{IsPermutation}
-use Rattle.std.proofs.lemmas.List.{append-nil, map_push, map-set, get_or-map, take-map, take-append-drop, drop_all, length-map, nil_from_length, take_all}
+use Rattle.std.proofs.lemmas.List.{append-nil, map_push, map-set, get_or-map, take-map, take-append-drop, drop_all, length-map, nil_from_length}
 use Rattle.std.proofs.lemmas.List.Sorted.{length_permutation}
 use Rattle.rows.specs.declared.cells.Cells.{Cells}
 use Rattle.labels.specs.Guards.{meet}
-use Rattle.stores.specs.Changes.{StandsFor, SameMaking, Appended, Replaced, Removed}
+use Rattle.stores.specs.Changes.{StandsFor, Appended, Replaced, Removed}
 use Rattle.stores.specs.Tables.{Facet, Table, count, row_at, no_row}
 use Rattle.stores.proofs.Touching.{stands_meet}
 use Rattle.archive.specs.Rules.{at_kept}

@@ -1,5 +1,5 @@
 -- The rule of ask: which rows a query answers with, which of them a choice is shown, and when it is refused. Assumes nothing.
-use Rattle.std.specs.Prelude.{ℕ, Bool, cond, List, [], ◌∷◌, ◌++◌, map, length, ℤ, filter, Option, nat_le}
+use Rattle.std.specs.Prelude.{ℕ, cond, List, [], ◌∷◌, ◌++◌, map, length, ℤ, filter, Option, nat_le}
 use Rattle.std.specs.List.{flat_map}
 use Rattle.faults.specs.declared.Fault.{Fault}
 use Rattle.faults.specs.declared.Refusal.TheVariants.{ChoiceNotKept, AnswerFull, SheetFull}

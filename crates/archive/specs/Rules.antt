@@ -1,5 +1,5 @@
 -- The rules of add, set and cut: which rows they leave in a table, and when they are refused. Assumes nothing.
-use Rattle.std.specs.Prelude.{ℕ, suc, Bool, true, cond, ◌&&◌, List, [], ◌∷◌, ◌++◌, map, length, set, ℤ, Some, None, filter, Option, nat_le, nat_lt}
+use Rattle.std.specs.Prelude.{ℕ, suc, Bool, true, cond, ◌&&◌, List, [], ◌∷◌, ◌++◌, map, length, Some, None, filter, Option, nat_le, nat_lt}
 use Rattle.std.specs.List.Sorted.{IsPermutation}
 use Rattle.std.specs.List.{flat_map}
 use Rattle.faults.specs.declared.Fault.{Fault}

@@ -1,5 +1,5 @@
 -- What the turns of a set or a cut leave in a table, as it shows at the choices that it keeps. Assumes nothing.
-use Rattle.std.specs.Prelude.{◌≡◌, ℕ, ◌+◌, ◌<◌, ◌≤◌, Bool, true, false, List, [], ◌∷◌, ◌++◌, map, length, take, drop, set, filter, slice_index_or, slice_set}
+use Rattle.std.specs.Prelude.{◌≡◌, ℕ, ◌+◌, ◌<◌, ◌≤◌, Bool, true, false, List, [], ◌∷◌, ◌++◌, map, length, take, drop, filter, slice_index_or, slice_set}
 use Rattle.std.specs.List.{flat_map}
 use Rattle.labels.specs.declared.literals.Literal.{Literal}
 use Rattle.queries.specs.declared.nodes.Node.{Node}

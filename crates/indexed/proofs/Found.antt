@@ -7,7 +7,7 @@ use Rattle.words.proofs.Searched.{never_true}
 use Rattle.words.proofs.Walked.{any_passes}
 use Rattle.rows.specs.Cells.{same_number}
 use Rattle.indexed.specs.declared.entries.Entry.{Entry}
-use Rattle.indexed.specs.Index.{before, ascending, same_pair, lists, Splits, LowestListed}
+use Rattle.indexed.specs.Index.{ascending, same_pair, lists, Splits, LowestListed}
 use Rattle.indexed.proofs.Order.{Comes, before_tells, before_apart, same_number_tells, same_pair_tells}
 use Rattle.indexed.proofs.Ordered.{in_order}
 use Rattle.indexed.proofs.Places.{any_at}

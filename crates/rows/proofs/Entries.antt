@@ -1,6 +1,6 @@
 -- What a change of the memory makes of a list's entries. Assumes nothing.
-use Rattle.std.proofs.Common.{◌≡◌, ℕ, suc, ◌+◌, ◌-◌, ◌<◌, ◌≤◌, min, List, [], ◌∷◌, ◌++◌, length, get_or, take, drop, set, sym, refl, ap, ◌∙◌, subst, ap₂, add-one, arith, length-append, length-drop, length-take, length-take-le}
-use Rattle.std.proofs.lemmas.List.{append_assoc, take_at, take-append-le, take-append-drop, take-take, take_more, drop_at, drop_more, drop-take, drop-drop, set_split, set-append_left, set_at, length-set, length_push, get_or-drop, get_or-append-add, get_or-append_right}
+use Rattle.std.proofs.Common.{◌≡◌, ℕ, suc, ◌+◌, ◌-◌, ◌<◌, ◌≤◌, min, List, [], ◌∷◌, ◌++◌, length, get_or, take, drop, set, sym, refl, ap, ◌∙◌, ap₂, add-one, arith, length-append, length-drop, length-take-le}
+use Rattle.std.proofs.lemmas.List.{append_assoc, take_at, take-append-drop, take-take, take_more, drop_more, drop-take, set_split, set-append_left, set_at, length-set, length_push, get_or-drop, get_or-append_right}
 use Rattle.std.specs.List.{remove}
 use Rattle.rows.specs.declared.lists.List as borrowed
 use Rattle.rows.specs.Lists.{memory, most, entries, NowHas, closed}

@@ -1,14 +1,14 @@
 -- What a heap's list says of its table. Assumes nothing.
-use Rattle.std.proofs.Common.{◌≡◌, ℕ, zero, suc, ◌<◌, ◌≤◌, min, Bool, List, [], ◌∷◌, ◌++◌, map, length, get_or, take, drop, set, Some, None, Option, sym, refl, ap, ◌∙◌, ap₂, arith}
+use Rattle.std.proofs.Common.{◌≡◌, ℕ, zero, suc, ◌<◌, ◌≤◌, Bool, List, [], ◌∷◌, ◌++◌, map, length, get_or, take, drop, set, Some, None, sym, refl, ap, ◌∙◌, ap₂, arith}
 use Rattle.std.specs.List.{slice_get, remove}
 use Rattle.std.proofs.lemmas.List.{append-nil, map-append, map_push, map-set, take-map, drop-map, take_all, drop_all, length-map}
 use Rattle.rows.specs.declared.cells.Row.{Row}
-use Rattle.rows.specs.Lists.{entries, most, NowHas}
+use Rattle.rows.specs.Lists.{entries, NowHas}
 use Rattle.rows.proofs.Entries.{few_entries}
 use Rattle.stores.specs.declared.heaps.Heap.{Heap}
 use Rattle.stores.specs.Changes.{SameMaking, Appended, Replaced, Removed}
 use Rattle.stores.specs.Heaps.{heap_table}
-use Rattle.stores.specs.Tables.{Bounded, Facet, Table, count, facet, row_at, no_row}
+use Rattle.stores.specs.Tables.{Bounded, count, facet}
 use Rattle.stores.proofs.Changed.{appended, replaced, removed_closing}
 
 module _ {X Y : Type 0} (f : X → Y) where

@@ -1,5 +1,5 @@
 -- What a change of the table below comes to in a pruned table. Assumes nothing.
-use Rattle.std.proofs.Common.{◌≡◌, ℕ, ◌<◌, Bool, true, false, cond, ◌&&◌, eqb, List, [], length, Ok, Err, Result, sym, refl, ap, ◌∙◌, subst, ⊎_elim, arith}
+use Rattle.std.proofs.Common.{◌≡◌, ℕ, Bool, true, false, ◌&&◌, eqb, [], Ok, Err, Result, sym, ap, ◌∙◌, subst, ⊎_elim, arith}
 use mathlib.Core.Path.{fun_ext}
 use mathlib.Core.Bool.{and_assoc, and_comm}
 use Rattle.std.proofs.lemmas.List.{nil_from_length}
@@ -11,7 +11,7 @@ use Rattle.faults.specs.Faults.{fault}
 use Rattle.labels.specs.Guards.{meet}
 use Rattle.words.specs.Bits.{some_choice}
 use Rattle.stores.specs.declared.pruned.Pruned.{Pruned}
-use Rattle.stores.specs.Changes.{StandsFor, SameMaking, Appended, Replaced, Removed, Add, Put, Remove}
+use Rattle.stores.specs.Changes.{StandsFor, SameMaking, Removed, Add, Put, Remove}
 use Rattle.stores.specs.Pruned.{pruned_table, met_with, prunable}
 use Rattle.stores.specs.Tables.{Facet, Table, count, touches, empty_table}
 

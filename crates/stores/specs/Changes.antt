@@ -1,5 +1,5 @@
 -- What the changes of a store do to its table. `Same` says that the store as a whole is as it was. Assumes nothing.
-use Rattle.std.specs.Prelude.{◌≡◌, ℕ, suc, ◌<◌, ◌≤◌, Bool, true, false, List, [], ◌∷◌, ◌++◌, take, drop, Ok, Err, Result, slice_set}
+use Rattle.std.specs.Prelude.{◌≡◌, ℕ, suc, ◌<◌, ◌≤◌, Bool, true, false, [], ◌∷◌, ◌++◌, take, drop, Ok, Err, Result, slice_set}
 use Rattle.std.specs.List.Sorted.{IsPermutation}
 use Rattle.faults.specs.declared.Fault.{Fault}
 use Rattle.faults.specs.declared.Refusal.TheVariants.{TableFull, PlaceOutOfRange}

@@ -1,5 +1,5 @@
 -- What a heap means. Assumes nothing.
-use Rattle.std.specs.Prelude.{ℕ, Bool, List, map}
+use Rattle.std.specs.Prelude.{ℕ, Bool, map}
 use Rattle.stores.specs.declared.heaps.Heap.{Heap}
 use Rattle.labels.specs.Guards.{everything}
 use Rattle.rows.specs.Lists.{entries, most}

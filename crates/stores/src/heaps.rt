@@ -20,8 +20,8 @@ pub struct Heap<'a, G> {
 impl<'a, G: Guard> Heap<'a, G> {
     // A heap with no row, in this memory.
     pub fn new(slots: &'a mut [Row<G>]) -> Heap<'a, G>
-        ensures value { heap_table admitted result ≡ empty_table everything (min (length slots.old) 65535) }
-        ensures touching { AllTouch (heap_table admitted result) }
+        ensures value { heap_table G.admitted result ≡ empty_table everything (min (length slots.old) 65535) }
+        ensures touching { AllTouch (heap_table G.admitted result) }
     {
         Heap {
             rows: List::new(slots),
@@ -30,7 +30,7 @@ impl<'a, G: Guard> Heap<'a, G> {
 }
 
 impl<'a, G: Guard> Store<G> for Heap<'a, G> {
-    ghost table = { heap_table G.Guard.admitted };
+    ghost table = { heap_table G.admitted };
 
     fn count(&self) -> u32 {
         self.rows.len() as u32
@@ -71,9 +71,9 @@ impl<'a, G: Guard> Store<G> for Heap<'a, G> {
 
     // Where the row does not touch the heap, those behind the gap move up.
     fn put(&mut self, place: u32, row: &Row<G>) -> Result<(), Fault>
-        ensures change { Put (self.new ≡ self.old) (heap_table G.Guard.admitted self.old) (heap_table G.Guard.admitted self.new) place (facet G.Guard.admitted row.now) result }
-        ensures touching { AllTouch (heap_table G.Guard.admitted self.old) → AllTouch (heap_table G.Guard.admitted self.new) }
-        ensures closes { touches (heap_table G.Guard.admitted self.old) (G.Guard.admitted row.now.guard) ≡ false → (heap_table G.Guard.admitted self.new).rows ≡ remove (heap_table G.Guard.admitted self.old).rows place }
+        ensures change { Put (self.new ≡ self.old) (heap_table G.admitted self.old) (heap_table G.admitted self.new) place (facet G.admitted row.now) result }
+        ensures touching { AllTouch (heap_table G.admitted self.old) → AllTouch (heap_table G.admitted self.new) }
+        ensures closes { touches (heap_table G.admitted self.old) (G.admitted row.now.guard) ≡ false → (heap_table G.admitted self.new).rows ≡ remove (heap_table G.admitted self.old).rows place }
     {
         if row.guard.is_empty() {
             return self.remove(place);
@@ -87,9 +87,9 @@ impl<'a, G: Guard> Store<G> for Heap<'a, G> {
 
     // The rows behind the gap move up.
     fn remove(&mut self, place: u32) -> Result<(), Fault>
-        ensures change { Remove (self.new ≡ self.old) (heap_table G.Guard.admitted self.old) (heap_table G.Guard.admitted self.new) place result }
-        ensures touching { AllTouch (heap_table G.Guard.admitted self.old) → AllTouch (heap_table G.Guard.admitted self.new) }
-        ensures closes { (heap_table G.Guard.admitted self.new).rows ≡ remove (heap_table G.Guard.admitted self.old).rows place }
+        ensures change { Remove (self.new ≡ self.old) (heap_table G.admitted self.old) (heap_table G.admitted self.new) place result }
+        ensures touching { AllTouch (heap_table G.admitted self.old) → AllTouch (heap_table G.admitted self.new) }
+        ensures closes { (heap_table G.admitted self.new).rows ≡ remove (heap_table G.admitted self.old).rows place }
     {
         if self.rows.remove(place as usize) {
             Ok(())

@@ -19,7 +19,7 @@ pub struct Pruned<S, G> {
 impl<G: Guard, S: Store<G>> Pruned<S, G> {
     // Tells before a store is pruned whether it may be: it may not have a row.
     pub fn check(below: &S) -> Result<(), Fault>
-        ensures { result ≡ prunable (S.Store.table below.now) }
+        ensures { result ≡ prunable (S.table below.now) }
     {
         if below.count() == 0 {
             Ok(())
@@ -30,16 +30,16 @@ impl<G: Guard, S: Store<G>> Pruned<S, G> {
 
     // Prunes a store that has no row.
     pub fn new(below: S, guard: G) -> Pruned<S, G>
-        requires { prunable (S.Store.table below) ≡ Ok tt }
-        ensures touching { AllTouch (pruned_table (S.Store.table result.below) (G.Guard.admitted result.guard)) }
-        ensures value { pruned_table (S.Store.table result.below) (G.Guard.admitted result.guard) ≡ empty_table (meet (S.Store.table below).keeps (G.Guard.admitted guard)) (S.Store.table below).capacity }
+        requires { prunable (S.table below) ≡ Ok tt }
+        ensures touching { AllTouch (pruned_table (S.table result.below) (G.admitted result.guard)) }
+        ensures value { pruned_table (S.table result.below) (G.admitted result.guard) ≡ empty_table (meet (S.table below).keeps (G.admitted guard)) (S.table below).capacity }
     {
         Pruned { below, guard }
     }
 
     // The row, met with the guard.
     fn narrowed(&self, row: &Row<G>) -> Row<G>
-        ensures { facet G.Guard.admitted result ≡ met_with (G.Guard.admitted self.now.guard) (facet G.Guard.admitted row.now) }
+        ensures { facet G.admitted result ≡ met_with (G.admitted self.now.guard) (facet G.admitted row.now) }
     {
         Row {
             guard: row.guard.meet(self.guard),
@@ -49,7 +49,7 @@ impl<G: Guard, S: Store<G>> Pruned<S, G> {
 }
 
 impl<G: Guard, S: Store<G>> Store<G> for Pruned<S, G> {
-    ghost table = { λ p. pruned_table (S.Store.table p.below) (G.Guard.admitted p.guard) };
+    ghost table = { λ p. pruned_table (S.table p.below) (G.admitted p.guard) };
 
     fn count(&self) -> u32 {
         self.below.count()

@@ -28,12 +28,12 @@ pub trait Store<G: Guard> {
 
     // Whether the guard admits a choice that is kept.
     fn touches(&self, guard: G) -> bool
-        ensures { result ≡ touches (table self.now) (admitted guard) };
+        ensures { result ≡ touches (table self.now) (G.admitted guard) };
 
     // The row at a place; where there is none, a guard that admits nothing, and zeros.
     fn row(&self, place: u32) -> Row<G>
-        ensures value { facet admitted result ≡ row_at (table self.now) place }
-        ensures touching { AllTouch (table self.now) → place < count (table self.now) → touches (table self.now) (admitted result.guard) ≡ true };
+        ensures value { facet G.admitted result ≡ row_at (table self.now) place }
+        ensures touching { AllTouch (table self.now) → place < count (table self.now) → touches (table self.now) (G.admitted result.guard) ≡ true };
 
     // The lowest place at or after `from` whose row has the number in the column, if there is one.
     fn next(&self, from: u32, column: u32, number: i32) -> Option<u32>
@@ -50,12 +50,12 @@ pub trait Store<G: Guard> {
 
     // Adds a row behind the others.
     fn add(&mut self, row: &Row<G>) -> Result<(), Fault>
-        ensures change { Add (self.new ≡ self.old) (table self.old) (table self.new) (facet admitted row.now) result }
+        ensures change { Add (self.new ≡ self.old) (table self.old) (table self.new) (facet G.admitted row.now) result }
         ensures touching { AllTouch (table self.old) → AllTouch (table self.new) };
 
     // Puts a row in the place of another.
     fn put(&mut self, place: u32, row: &Row<G>) -> Result<(), Fault>
-        ensures change { Put (self.new ≡ self.old) (table self.old) (table self.new) place (facet admitted row.now) result }
+        ensures change { Put (self.new ≡ self.old) (table self.old) (table self.new) place (facet G.admitted row.now) result }
         ensures touching { AllTouch (table self.old) → AllTouch (table self.new) };
 
     // Takes a row out.

@@ -31,7 +31,7 @@ fn first_number<G>(row: &Row<G>) -> i32
 
 // What stands at a place with no row.
 pub(super) fn no_row<G: Guard>() -> Row<G>
-    ensures { facet admitted result ≡ no_row }
+    ensures { facet G.admitted result ≡ no_row }
 {
     Row {
         guard: G::nothing(),
@@ -42,7 +42,7 @@ pub(super) fn no_row<G: Guard>() -> Row<G>
 impl<G: Guard> Indexed<G> {
     // A table with no row, and room for this many, at most 4,096. All its memory is got here.
     pub fn new(heap: Global, capacity: u32) -> Result<Indexed<G>, AllocError>
-        ensures { IfOk result (λ t. indexed_table admitted t ≡ empty_table everything (min capacity 4096)) }
+        ensures { IfOk result (λ t. indexed_table G.admitted t ≡ empty_table everything (min capacity 4096)) }
     {
         let capacity = capacity.min(MOST_ROWS);
         Ok(Indexed {
@@ -91,7 +91,7 @@ impl<G: Guard> Indexed<G> {
 
     // The lowest place at or after `from` whose row has the number in the column, found row by row.
     pub(super) fn scan(&self, from: u32, column: u32, number: i32) -> Option<u32>
-        ensures { Lowest (count (indexed_table admitted self.now)) (has_number (indexed_table admitted self.now) column number) from result }
+        ensures { Lowest (count (indexed_table G.admitted self.now)) (has_number (indexed_table G.admitted self.now) column number) from result }
     {
         for place in from..self.len() {
             if self.stored(place).cells.has(column, number) {
@@ -104,7 +104,7 @@ impl<G: Guard> Indexed<G> {
     // Adds a row behind the others, where there is room.
     pub(super) fn append(&mut self, row: &Row<G>)
         requires { vec_len self.old.rows < self.old.capacity }
-        ensures { indexed_table admitted self.new ≡ with_rows (indexed_table admitted self.old) ((indexed_table admitted self.old).rows ++ facet admitted row.now ∷ []) }
+        ensures { indexed_table G.admitted self.new ≡ with_rows (indexed_table G.admitted self.old) ((indexed_table G.admitted self.old).rows ++ facet G.admitted row.now ∷ []) }
     {
         let place = self.len();
         self.index.insert(first_number(row), place);
@@ -114,7 +114,7 @@ impl<G: Guard> Indexed<G> {
     // Puts a row in the place of another.
     pub(super) fn replace(&mut self, place: u32, row: &Row<G>)
         requires { place < vec_len self.old.rows }
-        ensures { indexed_table admitted self.new ≡ with_rows (indexed_table admitted self.old) (slice_set (indexed_table admitted self.old).rows place (facet admitted row.now)) }
+        ensures { indexed_table G.admitted self.new ≡ with_rows (indexed_table G.admitted self.old) (slice_set (indexed_table G.admitted self.old).rows place (facet G.admitted row.now)) }
     {
         let old = self.number_at(place);
         self.index.renumber(place, old, first_number(row));
@@ -124,7 +124,7 @@ impl<G: Guard> Indexed<G> {
     // Takes a row out, and moves the last row into the gap.
     pub(super) fn take_out(&mut self, place: u32)
         requires { place < vec_len self.old.rows }
-        ensures { indexed_table admitted self.new ≡ with_rows (indexed_table admitted self.old) (moved_last (indexed_table admitted self.old).rows place) }
+        ensures { indexed_table G.admitted self.new ≡ with_rows (indexed_table G.admitted self.old) (moved_last (indexed_table G.admitted self.old).rows place) }
     {
         let last = self.len() - 1;
         let old = self.number_at(place);

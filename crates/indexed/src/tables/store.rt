@@ -12,7 +12,7 @@ use rows::Row;
 use stores::Store;
 
 impl<G: Guard> Store<G> for Indexed<G> {
-    ghost table = { indexed_table G.Guard.admitted };
+    ghost table = { indexed_table G.admitted };
 
     fn count(&self) -> u32 {
         self.len()
@@ -60,9 +60,9 @@ impl<G: Guard> Store<G> for Indexed<G> {
 
     // Where the row does not touch the table, the last row moves into the gap.
     fn put(&mut self, place: u32, row: &Row<G>) -> Result<(), Fault>
-        ensures change { Put (self.new ≡ self.old) (indexed_table G.Guard.admitted self.old) (indexed_table G.Guard.admitted self.new) place (facet G.Guard.admitted row.now) result }
-        ensures touching { AllTouch (indexed_table G.Guard.admitted self.old) → AllTouch (indexed_table G.Guard.admitted self.new) }
-        ensures moves { touches (indexed_table G.Guard.admitted self.old) (G.Guard.admitted row.now.guard) ≡ false → place < count (indexed_table G.Guard.admitted self.old) → (indexed_table G.Guard.admitted self.new).rows ≡ moved_last (indexed_table G.Guard.admitted self.old).rows place }
+        ensures change { Put (self.new ≡ self.old) (indexed_table G.admitted self.old) (indexed_table G.admitted self.new) place (facet G.admitted row.now) result }
+        ensures touching { AllTouch (indexed_table G.admitted self.old) → AllTouch (indexed_table G.admitted self.new) }
+        ensures moves { touches (indexed_table G.admitted self.old) (G.admitted row.now.guard) ≡ false → place < count (indexed_table G.admitted self.old) → (indexed_table G.admitted self.new).rows ≡ moved_last (indexed_table G.admitted self.old).rows place }
     {
         if row.guard.is_empty() {
             return self.remove(place);
@@ -76,9 +76,9 @@ impl<G: Guard> Store<G> for Indexed<G> {
 
     // The last row moves into the gap.
     fn remove(&mut self, place: u32) -> Result<(), Fault>
-        ensures change { Remove (self.new ≡ self.old) (indexed_table G.Guard.admitted self.old) (indexed_table G.Guard.admitted self.new) place result }
-        ensures touching { AllTouch (indexed_table G.Guard.admitted self.old) → AllTouch (indexed_table G.Guard.admitted self.new) }
-        ensures moves { place < count (indexed_table G.Guard.admitted self.old) → (indexed_table G.Guard.admitted self.new).rows ≡ moved_last (indexed_table G.Guard.admitted self.old).rows place }
+        ensures change { Remove (self.new ≡ self.old) (indexed_table G.admitted self.old) (indexed_table G.admitted self.new) place result }
+        ensures touching { AllTouch (indexed_table G.admitted self.old) → AllTouch (indexed_table G.admitted self.new) }
+        ensures moves { place < count (indexed_table G.admitted self.old) → (indexed_table G.admitted self.new).rows ≡ moved_last (indexed_table G.admitted self.old).rows place }
     {
         if !self.has_row(place) {
             return Err(Fault::new(Refusal::PlaceOutOfRange, place));

@@ -1,4 +1,4 @@
-use Rattle.std.proofs.Common.{◌≡◌, sym, refl, subst}
+use Rattle.std.proofs.Common.{sym, subst}
 use Rattle.stores.specs.Tables.{facet}
 use Rattle.archive.specs.Rules.{at_kept}
 use Rattle.archive.specs.Turns.{Shows, view, with_part}

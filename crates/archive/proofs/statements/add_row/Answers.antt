@@ -1,4 +1,4 @@
-use Rattle.std.proofs.Common.{◌≡◌, Ok, Err, sym, refl, ap, ◌∙◌}
+use Rattle.std.proofs.Common.{◌≡◌, Err, refl, ap, ◌∙◌}
 use Rattle.std.proofs.lemmas.Result.{err_from_is_err_and}
 use Rattle.rows.specs.declared.cells.Cells.{Cells}
 use Rattle.labels.specs.Paths.{literals, path_guard}
@@ -6,10 +6,10 @@ use Rattle.stores.specs.Tables.{Facet, facet}
 use Rattle.archive.proofs.Checked.{added_holds, never_err, never_ok, room_told}
 use Rattle.archive.proofs.statements.add_row.Goals as goal
 
-pub returns-in-err-check-add : goal.returns-in-err-check-add
-returns-in-err-check-add g c =
-    let p = err_from_is_err_and c.from-residual.result c.from-residual.ensures.1 in
-    record { answer = p.1 ∙ ap Err p.2 ∙ c.in-err-check-add.ensures; done = λ fine. absurd (never_ok p.1 fine); unchanged = λ told is. refl }
+pub returns-in_err-check_add : goal.returns-in_err-check_add
+returns-in_err-check_add g c =
+    let p = err_from_is_err_and c.from_residual.result c.from_residual.ensures.1 in
+    record { answer = p.1 ∙ ap Err p.2 ∙ c.in_err-check_add.ensures; done = λ fine. absurd (never_ok p.1 fine); unchanged = λ told is. refl }
 
 pub returns : goal.returns
 returns g c =
@@ -22,7 +22,7 @@ returns g c =
     let given = facet g.G.Guard.admitted record { guard = c.guard.result; cells = cells } in
     let row : Facet Cells = record { guard = path_guard known path; held = cells } in
     let same : given ≡ row = λ i. record { guard = c.guard.ensures.admitted i; held = cells } in
-    let fine = c.in-ok-check-add.ensures in
+    let fine = c.in_ok-check_add.ensures in
     record {
       answer = fine;
       done = λ ok each. (added_holds before after known path cells given same (ap table) c.add.ensures.change (room_told before after known path cells c.args.place fine), c.add.ensures.touching each);

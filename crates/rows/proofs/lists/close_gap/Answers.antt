@@ -1,4 +1,4 @@
-use Rattle.std.proofs.Common.{◌≡◌, ap, ◌∙◌, arith}
+use Rattle.std.proofs.Common.{ap, ◌∙◌, arith}
 use Rattle.rows.specs.Lists.{closed}
 use Rattle.rows.proofs.Entries.{closed_none, closed_more}
 use Rattle.rows.proofs.lists.close_gap.Goals as goal
@@ -8,7 +8,7 @@ loop-at-init g c = closed_none c.args.slots.now c.args.place
 
 pub loop-at-preserved : goal.loop-at-preserved
 loop-at-preserved g c =
-    closed_more c.args.slots.now c.loop-at.slots c.args.place c.loop-at.at c.index-slots-at.result c.loop-at.auto.at (omega (arith, c.requires.0)) c.loop-at.invariant c.index-slots-at.is
+    closed_more c.args.slots.now c.loop-at.slots c.args.place c.loop-at.at c.index-slots-at.result c.loop-at.auto.at (omega (arith, c.requires.last_in_bounds)) c.loop-at.invariant c.index-slots-at.is
 
 pub returns : goal.returns
-returns g c = c.loop-at.invariant ∙ ap (closed c.args.slots.now c.args.place) (omega (arith, c.loop-at.auto.at-end c.requires.1))
+returns g c = c.loop-at.invariant ∙ ap (closed c.args.slots.now c.args.place) (omega (arith, c.loop-at.auto.at-end c.requires.place_le_last))

@@ -1,15 +1,14 @@
-use Rattle.std.proofs.Common.{◌≡◌, ◌≤◌, true, leb, length, Ok, Err, sym, refl, ap, ◌∙◌, subst}
+use Rattle.std.proofs.Common.{Err, refl, ap, ◌∙◌}
 use Rattle.std.proofs.lemmas.Result.{err_from_is_err_and}
-use Rattle.archive.specs.Rules.{rewritten_rows}
 use Rattle.archive.specs.Turns.{path_of, test_of}
 use Rattle.archive.proofs.Checked.{never_err, never_ok, rows_fit}
 use Rattle.archive.proofs.Placed.{gathered_left, gathered_fits, spread_holds}
 use Rattle.archive.proofs.rewriting.Rewrite.carry_out.Goals as goal
 
-pub returns-in-err-check : goal.returns-in-err-check
-returns-in-err-check g c =
-    let p = err_from_is_err_and c.from-residual.result c.from-residual.ensures.1 in
-    record { answer = p.1 ∙ ap Err p.2 ∙ c.in-err-check.ensures; done = λ fine. absurd (never_ok p.1 fine); unchanged = λ told is. refl }
+pub returns-in_err-check : goal.returns-in_err-check
+returns-in_err-check g c =
+    let p = err_from_is_err_and c.from_residual.result c.from_residual.ensures.1 in
+    record { answer = p.1 ∙ ap Err p.2 ∙ c.in_err-check.ensures; done = λ fine. absurd (never_ok p.1 fine); unchanged = λ told is. refl }
 
 pub returns : goal.returns
 returns g c =
@@ -18,7 +17,7 @@ returns g c =
     let after = g.S.Store.table c.spread.new.store in
     let rewrite = c.args.self.now in
     let known = g.G.Guard.known in
-    let fine = c.in-ok-check.ensures in
+    let fine = c.in_ok-check.ensures in
     record {
       answer = fine;
       done =

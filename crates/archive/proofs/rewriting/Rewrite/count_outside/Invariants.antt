@@ -1,7 +1,6 @@
 use Rattle.std.proofs.Common.{◌≡◌, ◌+◌, ◌≤◌, length, drop}
 use Rattle.stores.specs.Tables.{facet}
 use Rattle.archive.specs.Rules.{outside}
-use Rattle.archive.specs.Turns.{path_of}
 use Rattle.archive.proofs.rewriting.Rewrite.count_outside.Given as goal
 
 abbrev pub invariant-loop-literal : goal.invariant-loop-literal

@@ -8,5 +8,5 @@ returns g c =
     λ each.
     let start = g.S.Store.table c.args.store.now in
     let rewrite = c.args.self.now in
-    let gathered = c.move-up-left.ensures each in
-    gathered_shows (is_left start g.G.Guard.known (path_of rewrite) (test_of rewrite) rewrite.change) start (g.S.Store.table c.move-up-left.new.store) (g.S.Store.table c.shorten.new.store) c.move-up-left.result gathered (c.shorten.ensures (omega (arith, gathered.within, gathered.long)))
+    let gathered = c.move_up-left.ensures each in
+    gathered_shows (is_left start g.G.Guard.known (path_of rewrite) (test_of rewrite) rewrite.change) start (g.S.Store.table c.move_up-left.new.store) (g.S.Store.table c.shorten.new.store) c.move_up-left.result gathered (c.shorten.ensures (omega (arith, gathered.within, gathered.long)))

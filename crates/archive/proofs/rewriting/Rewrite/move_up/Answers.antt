@@ -1,9 +1,9 @@
-use Rattle.std.proofs.Common.{◌≡◌, ◌+◌, ◌<◌, sym, ap, ◌∙◌, subst, arith}
+use Rattle.std.proofs.Common.{◌+◌, ◌<◌, sym, subst, arith}
 use Rattle.stores.specs.Tables.{facet, count}
 use Rattle.archive.specs.Turns.{path_of, test_of, is_left}
 use Rattle.archive.proofs.Front.{Gathering, gathering_start, gathering_past, gathering_more, gathering_end, left_counted, none_counted}
 use Rattle.archive.proofs.rewriting.Rewrite.move_up.Goals as goal
-use Rattle.archive.proofs.rewriting.Rewrite.move_up.Goals.{then-count-parts-gt0, else-count-parts-gt0}
+use Rattle.archive.proofs.rewriting.Rewrite.move_up.Goals.{then-count_parts-gt0, else-count_parts-gt0}
 
 pub loop-place-init : goal.loop-place-init
 loop-place-init g c =
@@ -24,23 +24,23 @@ loop-place-preserved g c =
     let free = c.loop-place.free in
     let within : place < count start = omega (arith, c.loop-place-test.true, c.count-place-end.ensures) in
     let there = c.row-row.ensures.value in
-    elim c.if-count-parts-gt0.branch [
-      | then-count-parts-gt0 w ↦ (
+    elim c.if-count_parts-gt0.branch [
+      | then-count_parts-gt0 w ↦ (
         omega (arith, w.free-is, c.loop-place.invariant.0),
         λ each.
             let so_far = c.loop-place.invariant.1 each in
-            let passes = left_counted start now known (path_of rewrite) (test_of rewrite) rewrite.change row c.count_parts.result so_far.making.keeps c.count_parts.ensures.value w.if-count-parts-gt0.true in
-            let after = table w.move-down.new.store in
-            let done = gathering_more p start now after free place row so_far within there passes w.move-down.ensures in
-            subst (λ n. Gathering p start (table c.if-count-parts-gt0.store) n (place + 1)) (sym w.free-is) (subst (λ s. Gathering p start (table s) (free + 1) (place + 1)) (sym w.store-is) done),
+            let passes = left_counted start now known (path_of rewrite) (test_of rewrite) rewrite.change row c.count_parts.result so_far.making.keeps c.count_parts.ensures.value w.if-count_parts-gt0.true in
+            let after = table w.move_down.new.store in
+            let done = gathering_more p start now after free place row so_far within there passes w.move_down.ensures in
+            subst (λ n. Gathering p start (table c.if-count_parts-gt0.store) n (place + 1)) (sym w.free-is) (subst (λ s. Gathering p start (table s) (free + 1) (place + 1)) (sym w.store-is) done),
       )
-      | else-count-parts-gt0 w ↦ (
+      | else-count_parts-gt0 w ↦ (
         omega (arith, w.free-is, c.loop-place.invariant.0),
         λ each.
             let so_far = c.loop-place.invariant.1 each in
-            let none = none_counted start now known (path_of rewrite) (test_of rewrite) rewrite.change row c.count_parts.result so_far.making.keeps c.count_parts.ensures.value w.if-count-parts-gt0.false in
+            let none = none_counted start now known (path_of rewrite) (test_of rewrite) rewrite.change row c.count_parts.result so_far.making.keeps c.count_parts.ensures.value w.if-count_parts-gt0.false in
             let done = gathering_past p start now free place row so_far within there none in
-            subst (λ n. Gathering p start (table c.if-count-parts-gt0.store) n (place + 1)) (sym w.free-is) (subst (λ s. Gathering p start (table s) free (place + 1)) (sym w.store-is) done),
+            subst (λ n. Gathering p start (table c.if-count_parts-gt0.store) n (place + 1)) (sym w.free-is) (subst (λ s. Gathering p start (table s) free (place + 1)) (sym w.store-is) done),
       )
     ]
 

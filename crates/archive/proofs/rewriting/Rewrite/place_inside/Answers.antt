@@ -1,4 +1,4 @@
-use Rattle.std.proofs.Common.{◌≡◌, true, set, sym, refl, ap, ◌∙◌, subst, w32, SFits, rules}
+use Rattle.std.proofs.Common.{◌≡◌, true, set, ap, ◌∙◌, subst, w32, SFits, rules}
 use Rattle.std.proofs.lemmas.Int.{to_z-of_z}
 use Rattle.std.proofs.lemmas.Bool.{false≢true}
 use Rattle.rows.specs.declared.cells.Cells.{Cells}
@@ -13,7 +13,7 @@ pub returns-in-Set : goal.returns-in-Set
 returns-in-Set g c =
     λ each within touch still.
     let start = g.S.Store.table c.args.store.now in
-    let after = g.S.Store.table c.place-part.new.store in
+    let after = g.S.Store.table c.place_part.new.store in
     let rewrite = c.args.self.now in
     let known = g.G.Guard.known in
     let admitted = g.G.Guard.admitted in
@@ -22,6 +22,6 @@ returns-in-Set g c =
     let part : Facet Cells = record { guard = (inside known (path_of rewrite) row).guard; held = with_cell c.in-Set.column c.in-Set.number row.held } in
     let fits : SFits w32 c.in-Set.number = search rules in
     let changed : c.with.result ≡ with_cell c.in-Set.column c.in-Set.number row.held = c.with.ensures ∙ ap (λ n. with_cell c.in-Set.column n row.held) (to_z-of_z w32 c.in-Set.number fits) in
-    let made : facet admitted record { guard = c.guard-inside.result; cells = c.with.result } ≡ part = λ i. record { guard = c.guard-inside.ensures i; held = changed i } in
-    let done = c.place-part.ensures each (ap (touches start) c.guard-inside.ensures ∙ touch) within (λ taken. absurd (false≢true taken)) in
+    let made : facet admitted record { guard = c.guard_inside.result; cells = c.with.result } ≡ part = λ i. record { guard = c.guard_inside.ensures i; held = changed i } in
+    let done = c.place_part.ensures each (ap (touches start) c.guard_inside.ensures ∙ touch) within (λ taken. absurd (false≢true taken)) in
     subst (Placing start after (view start.keeps start) place true still) (inside_set start known (path_of rewrite) rewrite.change row still c.in-Set.column c.in-Set.number c.in-Set.is) (placing_first start after place part still (subst (λ f. Shows start after (set (view start.keeps start) place (at_kept start.keeps f))) made done))

@@ -19,23 +19,23 @@ loop-literal-preserved g c =
     let admitted = g.G.Guard.admitted in
     let known = g.G.Guard.known in
     let now = table c.loop-literal.store in
-    let path = c.as-slice-literals.result.now in
+    let path = c.as_slice-literals.result.now in
     let i = c.loop-literal.literal-index in
     let cells = c.args.row.now.cells in
     let place = c.args.place in
-    let part : Facet Cells = record { guard = admitted c.turned-away.result; held = cells } in
+    let part : Facet Cells = record { guard = admitted c.turned_away.result; held = cells } in
     let later = map (at_kept start.keeps) (outside start known (drop (i + 1) path) record { guard = admitted c.narrowed-guard.result; held = cells }) in
     let so_far = c.loop-literal.invariant start rows whole room from in
     let touch = λ (b : _) (e : b ≡ _). e ∙ same_touches start now part.guard so_far.shows.making in
     elim c.if-touches.branch [
       | then-touches w ↦
           let yes = sym (touch _ w.if-touches.ensures) in
-          let split = next_touches start known path i _ (admitted c.loop-literal.guard) (admitted c.narrowed-guard.result) part.guard cells c.loop-literal-test.true c.turned-away.ensures c.narrowed-guard.ensures yes in
-          let done = placing_more start now (table w.place-part.new.store) rows place c.loop-literal.taken part later whole room yes (subst (λ still. Placing start now rows place c.loop-literal.taken still whole) split so_far) w.place-part.ensures in
+          let split = next_touches start known path i _ (admitted c.loop-literal.guard) (admitted c.narrowed-guard.result) part.guard cells c.loop-literal-test.true c.turned_away.ensures c.narrowed-guard.ensures yes in
+          let done = placing_more start now (table w.place_part.new.store) rows place c.loop-literal.taken part later whole room yes (subst (λ still. Placing start now rows place c.loop-literal.taken still whole) split so_far) w.place_part.ensures in
           subst (λ t. Placing start (table c.if-touches.store) rows place t later whole) (sym w.taken-is) (subst (λ s. Placing start (table s) rows place _ later whole) (sym w.store-is) done)
       | else-touches w ↦
           let no_touch = sym (touch _ w.if-touches.ensures) in
-          let split = next_apart start known path i _ (admitted c.loop-literal.guard) (admitted c.narrowed-guard.result) part.guard cells c.loop-literal-test.true c.turned-away.ensures c.narrowed-guard.ensures no_touch in
+          let split = next_apart start known path i _ (admitted c.loop-literal.guard) (admitted c.narrowed-guard.result) part.guard cells c.loop-literal-test.true c.turned_away.ensures c.narrowed-guard.ensures no_touch in
           subst (λ t. Placing start (table c.if-touches.store) rows place t later whole) (sym w.taken-is) (subst (λ s. Placing start (table s) rows place c.loop-literal.taken later whole) (sym w.store-is) (subst (λ still. Placing start now rows place c.loop-literal.taken still whole) split so_far))
     ]
 
@@ -44,6 +44,6 @@ returns g c =
     λ start rows whole room from.
     let known = g.G.Guard.known in
     let row = facet g.G.Guard.admitted c.args.row.now in
-    let path = c.as-slice-literals.result.now in
-    let here = subst (λ ls. Placing start (g.S.Store.table c.args.store.now) rows c.args.place c.args.taken (map (at_kept start.keeps) (outside start known ls row)) whole) (sym c.as-slice-literals.ensures) from in
+    let path = c.as_slice-literals.result.now in
+    let here = subst (λ ls. Placing start (g.S.Store.table c.args.store.now) rows c.args.place c.args.taken (map (at_kept start.keeps) (outside start known ls row)) whole) (sym c.as_slice-literals.ensures) from in
     placing_end start (g.S.Store.table c.loop-literal.store) rows c.args.place c.loop-literal.taken _ whole (ap (map (at_kept start.keeps)) (outside_none start known path c.loop-literal.literal-index _ c.loop-literal-test.false)) (c.loop-literal.invariant start rows whole room here)

@@ -1,4 +1,4 @@
-use Rattle.std.proofs.Common.{ℕ, List, map, drop}
+use Rattle.std.proofs.Common.{List, map, drop}
 use Rattle.rows.specs.declared.cells.Cells.{Cells}
 use Rattle.stores.specs.Tables.{Facet, Table, facet}
 use Rattle.archive.specs.Rules.{at_kept, outside}

@@ -1,4 +1,4 @@
-use Rattle.std.proofs.Common.{◌≡◌, arith}
+use Rattle.std.proofs.Common.{arith}
 use Rattle.stores.specs.Tables.{facet}
 use Rattle.archive.specs.Turns.{path_of, test_of}
 use Rattle.archive.proofs.Placed.{spread_start, spread_turn, spread_end}
@@ -15,7 +15,7 @@ loop-place-preserved g c =
     λ each left fits.
     let rewrite = c.args.self.now in
     let table = g.S.Store.table in
-    spread_turn (table c.args.store.now) g.G.Guard.known (path_of rewrite) (test_of rewrite) rewrite.change (table c.loop-place.store) (table c.spread-row.new.store) c.loop-place.place (facet g.G.Guard.admitted c.row-row.result) (omega (arith, c.loop-place-test.true, c.count-place-end.ensures)) left fits (c.loop-place.invariant each left fits) c.row-row.ensures.value c.spread-row.ensures
+    spread_turn (table c.args.store.now) g.G.Guard.known (path_of rewrite) (test_of rewrite) rewrite.change (table c.loop-place.store) (table c.spread_row.new.store) c.loop-place.place (facet g.G.Guard.admitted c.row-row.result) (omega (arith, c.loop-place-test.true, c.count-place-end.ensures)) left fits (c.loop-place.invariant each left fits) c.row-row.ensures.value c.spread_row.ensures
 
 pub returns : goal.returns
 returns g c =

@@ -1,4 +1,4 @@
-use Rattle.std.proofs.Common.{◌≡◌, map, sym, ap, ◌∙◌, subst, arith}
+use Rattle.std.proofs.Common.{map, sym, subst, arith}
 use Rattle.std.proofs.lemmas.Bool.{and_parts}
 use Rattle.queries.specs.Tests.{passes}
 use Rattle.stores.specs.Tables.{facet, touches}
@@ -18,9 +18,9 @@ returns-then-concerns g c =
     let is = sym c.if-concerns.ensures in
     let touch = (and_parts (passes (test_of rewrite) row.held.values) (touches start (inside known (path_of rewrite) row).guard) is).1 in
     let still = map (at_kept start.keeps) (outside start known (path_of rewrite) row) in
-    let first = c.place-inside-taken.ensures each (omega (arith, room.within, view_length start.keeps start)) touch still in
+    let first = c.place_inside-taken.ensures each (omega (arith, room.within, view_length start.keeps start)) touch still in
     let whole = parts start known (path_of rewrite) (test_of rewrite) rewrite.change row in
-    c.place-outside.ensures start (view start.keeps start) whole room (subst (Placing start (g.S.Store.table c.place-inside-taken.new.store) (view start.keeps start) c.args.place c.place-inside-taken.result still) (parts_changed start known (path_of rewrite) (test_of rewrite) rewrite.change row is) first)
+    c.place_outside.ensures start (view start.keeps start) whole room (subst (Placing start (g.S.Store.table c.place_inside-taken.new.store) (view start.keeps start) c.args.place c.place_inside-taken.result still) (parts_changed start known (path_of rewrite) (test_of rewrite) rewrite.change row is) first)
 
 pub returns-else-concerns : goal.returns-else-concerns
 returns-else-concerns g c =

@@ -4,11 +4,10 @@ use Rattle.std.proofs.lemmas.Bool.{cond-true}
 use Rattle.indexed.proofs.Edited.{insert_ascends, insert_lists}
 use Rattle.indexed.proofs.index.Index.insert.Goals as goal
 
-pub invariant-of-self : goal.invariant-of-self
-invariant-of-self c = (
-  insert_ascends _ _ _ _ _ _ _ c.insert.ensures.items (c.insert.ensures.succeeds c.requires.room) (to_z-of_z w32 c.args.number c.ranges.number) c.args.self.now.ordered c.position-at.ensures c.requires.absent,
-  tt,
-)
+pub invariant_of-self : goal.invariant_of-self
+invariant_of-self c = record {
+  ordered = insert_ascends _ _ _ _ _ _ _ c.insert.ensures.items (c.insert.ensures.succeeds c.requires.room) (to_z-of_z w32 c.args.number c.ranges.number) c.args.self.now.ordered c.position-at.ensures c.requires.absent;
+}
 
 pub returns : goal.returns
 returns c = record {

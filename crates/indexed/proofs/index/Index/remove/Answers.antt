@@ -7,11 +7,10 @@ pub remove-requires : goal.remove-requires
 remove-requires c =
     let within = remove_within _ _ _ _ _ (to_z-of_z w32 c.args.number c.ranges.number) c.args.self.now.ordered c.position-at.ensures c.requires in omega (arith, c.args.self.now.entries.ok.0)
 
-pub invariant-of-self : goal.invariant-of-self
-invariant-of-self c = (
-  remove_ascends _ _ _ _ _ (to_z-of_z w32 c.args.number c.ranges.number) c.args.self.now.ordered c.position-at.ensures c.requires _ c.remove.ensures.items,
-  tt,
-)
+pub invariant_of-self : goal.invariant_of-self
+invariant_of-self c = record {
+  ordered = remove_ascends _ _ _ _ _ (to_z-of_z w32 c.args.number c.ranges.number) c.args.self.now.ordered c.position-at.ensures c.requires _ c.remove.ensures.items;
+}
 
 pub returns : goal.returns
 returns c = record {

@@ -10,14 +10,14 @@ pub insert-requires : goal.insert-requires
 insert-requires g c =
     record { room = search rules; absent = nothing_behind c.args.self.now _ c.len-place.result c.len-place.ensures }
 
-pub invariant-of-self : goal.invariant-of-self
-invariant-of-self g c =
-    let number = to_z-of_z w32 c.first-number.result (search rules) ∙ c.first-number.ensures in
-    let listed = append_lists c.args.self.now (vec_items c.push-reserved.new.self) _ c.args.row.now _ c.len-place.result number c.len-place.ensures c.push-reserved.ensures.items c.insert.ensures.listed in
-    (search rules, (search rules, (search rules, (search rules, (search rules, (listed, tt))))))
+pub invariant_of-self : goal.invariant_of-self
+invariant_of-self g c =
+    let number = to_z-of_z w32 c.first_number.result (search rules) ∙ c.first_number.ensures in
+    let listed = append_lists c.args.self.now (vec_items c.push_reserved.new.self) _ c.args.row.now _ c.len-place.result number c.len-place.ensures c.push_reserved.ensures.items c.insert.ensures.listed in
+    record { few = search rules; limited = search rules; reserved = search rules; paired = search rules; room = search rules; listed = listed }
 
 pub returns : goal.returns
 returns g c =
     let admitted = g.G.Guard.admitted in
     let before = c.args.self.now in
-    ap (with_rows (indexed_table admitted before)) (ap (map (facet admitted)) c.push-reserved.ensures.items ∙ map_push (facet admitted) (vec_items before.rows) c.args.row.now)
+    ap (with_rows (indexed_table admitted before)) (ap (map (facet admitted)) c.push_reserved.ensures.items ∙ map_push (facet admitted) (vec_items before.rows) c.args.row.now)

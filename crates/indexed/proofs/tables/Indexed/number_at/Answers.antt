@@ -6,6 +6,6 @@ use Rattle.indexed.proofs.tables.Indexed.number_at.Goals as goal
 pub returns : goal.returns
 returns g c =
     let rows = c.args.self.now.rows in
-    to_z-of_z w32 c.first-number.result (search rules)
-    ∙ c.first-number.ensures
+    to_z-of_z w32 c.first_number.result (search rules)
+    ∙ c.first_number.ensures
     ∙ number_read (vec_items rows) c.args.place c.stored.result (omega (arith, c.requires, rows.ok.0)) c.stored.ensures

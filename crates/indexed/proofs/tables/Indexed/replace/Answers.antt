@@ -8,18 +8,18 @@ use Rattle.indexed.proofs.tables.Indexed.replace.Goals as goal
 
 pub renumber-requires : goal.renumber-requires
 renumber-requires g c =
-    let old = to_z-of_z w32 c.number-at-old.result (search rules) ∙ c.number-at-old.ensures in
+    let old = to_z-of_z w32 c.number_at-old.result (search rules) ∙ c.number_at-old.ensures in
     record {
       listed = old_listed c.args.self.now c.args.place c.requires _ old;
       absent = other_not_listed c.args.self.now c.args.place c.requires _ old _;
     }
 
-pub invariant-of-self : goal.invariant-of-self
-invariant-of-self g c =
-    let old = to_z-of_z w32 c.number-at-old.result (search rules) ∙ c.number-at-old.ensures in
-    let new = to_z-of_z w32 c.first-number.result (search rules) ∙ c.first-number.ensures in
+pub invariant_of-self : goal.invariant_of-self
+invariant_of-self g c =
+    let old = to_z-of_z w32 c.number_at-old.result (search rules) ∙ c.number_at-old.ensures in
+    let new = to_z-of_z w32 c.first_number.result (search rules) ∙ c.first_number.ensures in
     let listed = replace_lists c.args.self.now c.args.place c.requires _ old _ _ c.args.row.now new c.renumber.ensures.listed in
-    (search rules, (search rules, (search rules, (search rules, (search rules, (listed, tt))))))
+    record { few = search rules; limited = search rules; reserved = search rules; paired = search rules; room = search rules; listed = listed }
 
 pub returns : goal.returns
 returns g c =

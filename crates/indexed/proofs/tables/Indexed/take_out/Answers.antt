@@ -6,25 +6,25 @@ use Rattle.indexed.proofs.Moved.{map_swapped}
 use Rattle.indexed.proofs.Relisted.{old_listed, other_not_listed, last_listed, move_lists}
 use Rattle.indexed.proofs.tables.Indexed.take_out.Goals as goal
 
-pub close-gap-requires : goal.close-gap-requires
-close-gap-requires g c =
-    let old = to_z-of_z w32 c.number-at-old.result (search rules) ∙ c.number-at-old.ensures in
-    let moved = to_z-of_z w32 c.number-at-moved.result (search rules) ∙ c.number-at-moved.ensures in
+pub close_gap-requires : goal.close_gap-requires
+close_gap-requires g c =
+    let old = to_z-of_z w32 c.number_at-old.result (search rules) ∙ c.number_at-old.ensures in
+    let moved = to_z-of_z w32 c.number_at-moved.result (search rules) ∙ c.number_at-moved.ensures in
     record {
       listed = old_listed c.args.self.now c.args.place c.requires _ old;
       absent = other_not_listed c.args.self.now c.args.place c.requires _ old _;
       moves = last_listed c.args.self.now c.args.place c.requires _ old _ (c.len-last.result - 1) (omega (arith, c.len-last.ensures)) moved;
     }
 
-pub invariant-of-self : goal.invariant-of-self
-invariant-of-self g c =
-    let old = to_z-of_z w32 c.number-at-old.result (search rules) ∙ c.number-at-old.ensures in
-    let moved = to_z-of_z w32 c.number-at-moved.result (search rules) ∙ c.number-at-moved.ensures in
-    let listed = move_lists c.args.self.now c.args.place c.requires _ old _ (c.len-last.result - 1) (omega (arith, c.len-last.ensures)) moved (vec_items c.swap-remove.new.self) c.swap-remove.result _ c.swap-remove.ensures.items c.close-gap.ensures.listed in
-    (search rules, (search rules, (search rules, (search rules, (search rules, (listed, tt))))))
+pub invariant_of-self : goal.invariant_of-self
+invariant_of-self g c =
+    let old = to_z-of_z w32 c.number_at-old.result (search rules) ∙ c.number_at-old.ensures in
+    let moved = to_z-of_z w32 c.number_at-moved.result (search rules) ∙ c.number_at-moved.ensures in
+    let listed = move_lists c.args.self.now c.args.place c.requires _ old _ (c.len-last.result - 1) (omega (arith, c.len-last.ensures)) moved (vec_items c.swap_remove.new.self) c.swap_remove.result _ c.swap_remove.ensures.items c.close_gap.ensures.listed in
+    record { few = search rules; limited = search rules; reserved = search rules; paired = search rules; room = search rules; listed = listed }
 
 pub returns : goal.returns
 returns g c =
     let admitted = g.G.Guard.admitted in
     let before = c.args.self.now in
-    ap (with_rows (indexed_table admitted before)) (ap (map (facet admitted)) c.swap-remove.ensures.items ∙ map_swapped (facet admitted) (vec_items before.rows) c.args.place c.swap-remove.result no_row (omega (arith, c.requires, before.rows.ok.0)))
+    ap (with_rows (indexed_table admitted before)) (ap (map (facet admitted)) c.swap_remove.ensures.items ∙ map_swapped (facet admitted) (vec_items before.rows) c.args.place c.swap_remove.result no_row (omega (arith, c.requires, before.rows.ok.0)))

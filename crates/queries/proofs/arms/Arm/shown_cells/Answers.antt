@@ -6,8 +6,8 @@ use Rattle.queries.proofs.arms.Arm.shown_cells.Goals as goal
 
 pub loop-place-preserved : goal.loop-place-preserved
 loop-place-preserved c =
-    let fits : SFits w32 c.number-in.result = search rules in
-    shown_turn (number_in c.args.cells.now) (pos 0) _ _ _ _ _ (omega (arith, c.min-place-end.ensures)) (omega (arith, c.min-place-end.ensures)) c.loop-place.invariant (to_z-of_z w32 c.number-in.result fits ∙ c.number-in.ensures)
+    let fits : SFits w32 c.number_in.result = search rules in
+    shown_turn (number_in c.args.cells.now) (pos 0) _ _ _ _ _ (omega (arith, c.min-place-end.ensures)) (omega (arith, c.min-place-end.ensures)) c.loop-place.invariant (to_z-of_z w32 c.number_in.result fits ∙ c.number_in.ensures)
 
 pub returns : goal.returns
 returns c =

@@ -4,8 +4,8 @@ use Rattle.queries.specs.Arms.{arm_of, asked_of, told_by}
 use Rattle.queries.proofs.Formed.{arms_go_on, arm_stops, arms_end}
 use Rattle.queries.proofs.arms.Query.check_arms.Goals as goal
 
-pub overflow-cast-number : goal.overflow-cast-number
-overflow-cast-number c = record { fits = omega (arith, c.requires, length-map c.args.self.now.arms.now arm_of) }
+pub overflow_cast-number : goal.overflow_cast-number
+overflow_cast-number c = record { fits = omega (arith, c.requires, length-map c.args.self.now.arms.now arm_of) }
 
 pub returns-then-not-passes : goal.returns-then-not-passes
 returns-then-not-passes c =

@@ -3,8 +3,8 @@ use Rattle.std.proofs.lemmas.List.{length-set}
 use Rattle.queries.proofs.Worked.{truth_turn, worked_out, not_counted, last_decides}
 use Rattle.queries.proofs.nodes.Test.passes.Goals as goal
 
-pub returns-then-not-is-counted : goal.returns-then-not-is-counted
-returns-then-not-is-counted c = record { value = not_counted _ _ c.if-not-is-counted.ensures; rests = worked_out _ _ }
+pub returns-then-not-is_counted : goal.returns-then-not-is_counted
+returns-then-not-is_counted c = record { value = not_counted _ _ c.if-not-is_counted.ensures; rests = worked_out _ _ }
 
 pub loop-number-preserved : goal.loop-number-preserved
 loop-number-preserved c =
@@ -16,6 +16,6 @@ loop-number-preserved c =
 pub returns : goal.returns
 returns c =
     record {
-      value = ap (λ k. get_or c.loop-number.truths k false) c.root.ensures ∙ last_decides _ _ _ _ c.if-not-is-counted.ensures c.loop-number-test.false c.loop-number.invariant.1;
+      value = ap (λ k. get_or c.loop-number.truths k false) c.root.ensures ∙ last_decides _ _ _ _ c.if-not-is_counted.ensures c.loop-number-test.false c.loop-number.invariant.1;
       rests = worked_out _ _;
     }

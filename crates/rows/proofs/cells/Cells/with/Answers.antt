@@ -1,4 +1,4 @@
-use Rattle.std.proofs.Common.{◌≡◌, length, sym, ap, arith, rules}
+use Rattle.std.proofs.Common.{◌≡◌, length, sym, arith, rules}
 use Rattle.std.proofs.lemmas.List.{set_past}
 use Rattle.rows.proofs.cells.Cells.with.Goals as goal
 

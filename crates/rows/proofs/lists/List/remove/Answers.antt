@@ -14,6 +14,6 @@ returns g c =
     let below : p < length (entries before) = omega (arith, c.len-len.ensures) in
     record {
       value = sym (lt-ltb p (length (entries before)) below);
-      done = λ _. now_has before _ _ (omega (arith, length-remove (entries before) p below, c.len-len.ensures)) (c.close-gap.ensures ∙ ap (λ k. closed (memory before) p (k - 1)) full ∙ closed_up (memory before) (min before.count (most before)) p (omega arith) (omega arith)) refl;
+      done = λ _. now_has before _ _ (omega (arith, length-remove (entries before) p below, c.len-len.ensures)) (c.close_gap.ensures ∙ ap (λ k. closed (memory before) p (k - 1)) full ∙ closed_up (memory before) (min before.count (most before)) p (omega arith) (omega arith)) refl;
       refused = λ absurdly. absurd (true≢false absurdly);
     }

@@ -1,9 +1,9 @@
-use Rattle.std.proofs.Common.{◌≡◌, ◌<◌, ◌≤◌, map, length, Ok, Err, sym, refl, ap, ◌∙◌, arith}
-use Rattle.std.proofs.lemmas.Bool.{not-true, not-false, both_ways, ltb-true, ltb-false}
-use Rattle.rows.specs.Lists.{entries, most}
+use Rattle.std.proofs.Common.{◌≡◌, ◌≤◌, map, length, Err, sym, refl, ap, ◌∙◌, arith}
+use Rattle.std.proofs.lemmas.Bool.{ltb-true, ltb-false}
+use Rattle.rows.specs.Lists.{entries}
 use Rattle.stores.specs.declared.heaps.Heap.{Heap}
 use Rattle.stores.specs.Heaps.{heap_table}
-use Rattle.stores.specs.Tables.{facet, touches, count}
+use Rattle.stores.specs.Tables.{facet, count}
 use Rattle.stores.proofs.Heaped.{heap_count, heap_removed, map_removed, removed_past, stays}
 use Rattle.stores.proofs.Outcomes.{remove_outside, remove_removed}
 use Rattle.stores.proofs.Touching.{remove_touching}

@@ -1,9 +1,7 @@
-use Rattle.std.proofs.Common.{◌≡◌, ap, ◌∙◌}
-use Rattle.rows.specs.Cells.{zeros}
-use Rattle.labels.specs.Guards.{nothing}
+use Rattle.std.proofs.Common.{◌≡◌, ◌∙◌}
 use Rattle.rows.specs.Lists.{entries}
 use Rattle.stores.specs.Heaps.{heap_table}
-use Rattle.stores.specs.Tables.{Facet, facet, row_at, no_row}
+use Rattle.stores.specs.Tables.{facet, no_row}
 use Rattle.stores.proofs.Heaped.{image_at, no_image_at}
 use Rattle.stores.proofs.Touching.{row_touching}
 use Rattle.stores.proofs.heaps.HeapStore.row.Goals as goal

@@ -1,5 +1,3 @@
-use Rattle.std.proofs.Common.{ap, ◌∙◌}
-use Rattle.words.specs.Lists.{all}
 use Rattle.stores.proofs.Pruning.{pruned_empty}
 use Rattle.stores.proofs.Touching.{empty_touching}
 use Rattle.stores.proofs.pruned.Pruned.new.Goals as goal

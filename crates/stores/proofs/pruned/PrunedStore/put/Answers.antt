@@ -1,4 +1,4 @@
-use Rattle.std.proofs.Common.{◌≡◌, refl, ap}
+use Rattle.std.proofs.Common.{refl, ap}
 use Rattle.stores.specs.declared.pruned.Pruned.{Pruned}
 use Rattle.stores.specs.Pruned.{pruned_table}
 use Rattle.stores.specs.Tables.{Table, facet}

@@ -1,4 +1,4 @@
-use Rattle.std.proofs.Common.{◌≡◌, ◌<◌, Some, None, ap, arith, w32}
+use Rattle.std.proofs.Common.{◌<◌, Some, None, ap, arith, w32}
 use Rattle.std.proofs.lemmas.Int.{to_z-of_z}
 use Rattle.stores.specs.Tables.{count, has_number, Lowest}
 use Rattle.stores.proofs.Lookups.{number_at, none_yet, none_more, next_is}

@@ -8,20 +8,20 @@ use Rattle.indexed.proofs.Changed.{row_appended}
 use Rattle.indexed.proofs.Tabled.{is_full, has_room}
 use Rattle.indexed.proofs.tables.store.IndexedStore.add.Goals as goal
 
-pub returns-then-is-empty : goal.returns-then-is-empty
-returns-then-is-empty g c =
+pub returns-then-is_empty : goal.returns-then-is_empty
+returns-then-is_empty g c =
     let table = indexed_table g.G.Guard.admitted c.args.self.now in
     let row = facet g.G.Guard.admitted c.args.row.now in
-    record { change = add_ignored table table row (not-true (touches table row.guard) (sym c.if-is-empty.ensures)) refl refl; touching = λ each. each }
+    record { change = add_ignored table table row (not-true (touches table row.guard) (sym c.if-is_empty.ensures)) refl refl; touching = λ each. each }
 
-pub returns-then-is-full : goal.returns-then-is-full
-returns-then-is-full g c =
+pub returns-then-is_full : goal.returns-then-is_full
+returns-then-is_full g c =
     let admitted = g.G.Guard.admitted in
     let table = indexed_table admitted c.args.self.now in
     let row = facet admitted c.args.row.now in
-    let touch = not-false (touches table row.guard) (sym c.if-is-empty.ensures) in
+    let touch = not-false (touches table row.guard) (sym c.if-is_empty.ensures) in
     record {
-      change = add_full table table row touch (is_full admitted c.args.self.now c.if-is-full.ensures) (ap Err c.new.ensures) refl;
+      change = add_full table table row touch (is_full admitted c.args.self.now c.if-is_full.ensures) (ap Err c.new.ensures) refl;
       touching = λ each. each;
     }
 
@@ -32,6 +32,6 @@ returns g c =
     let before = c.args.self.now in
     let after = c.append.new.self in
     let row = facet admitted c.args.row.now in
-    let touch = not-false (touches (table before) row.guard) (sym c.if-is-empty.ensures) in
-    let change = add_added {Same = after ≡ before} (table before) (table after) row touch (has_room admitted before c.if-is-full.ensures) refl (row_appended (table before) (table after) row c.append.ensures) in
+    let touch = not-false (touches (table before) row.guard) (sym c.if-is_empty.ensures) in
+    let change = add_added {Same = after ≡ before} (table before) (table after) row touch (has_room admitted before c.if-is_full.ensures) refl (row_appended (table before) (table after) row c.append.ensures) in
     record { change = change; touching = add_touching (table before) (table after) (ap table) row change }
