@@ -107,8 +107,8 @@ module _ (start : Table) (known : ℕ) (path : List Literal) (i : ℕ) (d : Lite
   next_apart apart_from = split ∙ ap (λ b. map (at_kept start.keeps) (cond b (record { guard = h; held = cells } ∷ outside start known (drop (i + 1) path) record { guard = g'; held = cells }) (outside start known (drop (i + 1) path) record { guard = g'; held = cells }))) apart_from
 
 -- the part inside the path comes first
-pub placing_first : (start after : Table) (place : ℕ) (part : Facet Cells) (still : List (Facet Cells)) → Shows start after (set (view start.keeps start) place (at_kept start.keeps part)) → Placing start after (view start.keeps start) place true still (at_kept start.keeps part ∷ still)
-placing_first start after place part still done =
+pub placing_first : (start after : Table) (place : ℕ) (part : Facet Cells) (others : List (Facet Cells)) → Shows start after (set (view start.keeps start) place (at_kept start.keeps part)) → Placing start after (view start.keeps start) place true others (at_kept start.keeps part ∷ others)
+placing_first start after place part others done =
     let rows = view start.keeps start in
     record { done = at_kept start.keeps part ∷ []; shows = subst (Shows start after) (sym (append-nil (set rows place (at_kept start.keeps part)))) done; filled = refl; rest = refl }
 
@@ -117,8 +117,8 @@ pub inside_set : (start : Table) (known : ℕ) (path : List Literal) (change : C
 inside_set start known path change row still column number is = ap (λ ch. inside_then start known path ch row still) (sym is)
 
 -- there is no part inside the path
-pub placing_start : (start : Table) (place : ℕ) (still : List (Facet Cells)) → AllTouch start → Placing start start (view start.keeps start) place false still still
-placing_start start place still each = record { done = []; shows = record { making = same_making start; seen = refl; each = each }; filled = refl; rest = refl }
+pub placing_start : (start : Table) (place : ℕ) (others : List (Facet Cells)) → AllTouch start → Placing start start (view start.keeps start) place false others others
+placing_start start place others each = record { done = []; shows = record { making = same_making start; seen = refl; each = each }; filled = refl; rest = refl }
 
 module _ (start : Table) (known : ℕ) (path : List Literal) (test : List Node) (change : Change) where
   abbrev r : Facet Cells → List (Facet Cells)

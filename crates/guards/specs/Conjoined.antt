@@ -1,4 +1,4 @@
--- The conjunction kind: what its words admit. Assumes nothing.
+-- Lemmas on the conjunction kind: what its words admit. Assumes nothing.
 use Rattle.std.specs.Prelude.{◌≡◌, ℕ, ◌^◌, ◌<◌, ◌≤◌, Bool, true, false, cond, not, ◌&&◌, ◌||◌, ◌==◌, ◌≢◌, bit_and, bit_or, nat_lt, refl}
 use Rattle.std.proofs.Common.{sym, ap, ap₂, ◌∙◌, ⊎_elim, lt_of_le_of_lt, arith, pow_pos}
 use Rattle.std.proofs.Math.Path.{fun_ext}

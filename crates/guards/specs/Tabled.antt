@@ -1,4 +1,4 @@
--- The table kind: what its word admits. Assumes nothing.
+-- Lemmas on the table kind: what its word admits. Assumes nothing.
 use Rattle.std.specs.Prelude.{◌≡◌, ℕ, ◌-◌, ◌%◌, ◌^◌, ◌<◌, ◌≤◌, Bool, true, cond, not, ◌&&◌, ◌==◌, bit_and, nat_eq, refl}
 use Rattle.std.proofs.Common.{sym, ap, ap₂, ◌∙◌, ⊎_elim, arith, pow_pos}
 use Rattle.std.proofs.Math.Path.{fun_ext}
