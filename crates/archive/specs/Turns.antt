@@ -48,7 +48,7 @@ inside_then table known path change row others = map (at_kept table.keeps) (unde
 
 -- the first part of each element, and then the other parts
 abbrev pub spread_out : {X : Type 0} → (X → List X) → List X → List X
-spread_out parts-of xs = map (λ x. slice_index_or (parts-of x) 0 x) xs ++ flat_map (λ x. drop 1 (parts-of x)) xs
+spread_out parts_of xs = map (λ x. slice_index_or (parts_of x) 0 x) xs ++ flat_map (λ x. drop 1 (parts_of x)) xs
 
 -- something is left of the row
 abbrev pub is_left : Table → ℕ → List Literal → List Node → Change → Facet Cells → Bool

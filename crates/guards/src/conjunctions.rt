@@ -3,7 +3,7 @@ ghost use Rattle.std.specs.Prelude.{◌≡◌, true, not, ◌&&◌, ◌==◌, bi
 ghost use Rattle.guards.specs.Conjunctions.{conjunction_admits, is_canonical, canonical, words, literal_words, meet_words, empty_words};
 ghost use Rattle.labels.specs.Guards.{everything, literal_guard, meet, empty};
 ghost use Rattle.guards.specs.Conjoined;
-ghost use Rattle.std.proofs.Common.{rules, arith};
+ghost use Rattle.std.proofs.Common.{rules};
 
 use labels::{Choice, Guard, Literal, Sign};
 
@@ -90,7 +90,7 @@ impl Guard for Conjunction {
 
     ghost admitted = { λ g. conjunction_admits g.required g.excluded };
 
-    ghost few = { first_of (Prim.search rules, Prim.grind (arith, Self.row.coded.inj)) };
+    ghost few = { Prim.search rules };
 
     ghost ignores = { λ g. Conjoined.ignores g.required g.excluded };
 

@@ -1,5 +1,5 @@
 -- Paths: up to eight literals that hold together. Assumes nothing.
-use Rattle.std.specs.Prelude.{ℕ, Bool, cond, ltb, List, length, take, Ok, Err, Result, nat_lt}
+use Rattle.std.specs.Prelude.{ℕ, Bool, cond, List, length, take, Ok, Err, Result, nat_lt}
 use Rattle.faults.specs.declared.Fault.{Fault}
 use Rattle.faults.specs.declared.Refusal.TheVariants.{CountOutOfLimits}
 use Rattle.labels.specs.declared.literals.Literal.{Literal}
@@ -23,7 +23,7 @@ path_guard known path choice = all (λ l. literal_guard known l choice) path
 
 -- each label of the path is known
 abbrev pub all_known : ℕ → List Literal → Bool
-all_known known path = all (λ l. ltb l.label known) path
+all_known known path = all (λ l. nat_lt l.label known) path
 
 -- a path takes a literal more while it has fewer than eight
 abbrev pub room : List Literal → Result (Unit {0}) Fault

@@ -18,7 +18,7 @@ shown_text Nothing = codes "nothing"
 
 -- what a choice is shown of two facets, each with the choices that it is for: the first that admits it
 abbrev pub shown_at : (ℕ → Bool) → ℤ → (ℕ → Bool) → ℤ → ℕ → Shown
-shown_at measured value stand-in other choice = cond (measured choice) (Measured value) (cond (stand-in choice) (StandIn other) Nothing)
+shown_at measured value stand_in other choice = cond (measured choice) (Measured value) (cond (stand_in choice) (StandIn other) Nothing)
 
 -- what a viewer is shown of a confidential reading on a day: the tool's value if the policy says yes to the label, and the null
 -- if not; nothing, where the label is not known

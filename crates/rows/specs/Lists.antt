@@ -15,9 +15,9 @@ abbrev pub entries : {E : Type 0} → borrowed.List E → List E
 entries list = take (min list.count (most list)) (memory list)
 
 -- the list now has these entries, in the memory that it had, and the slots behind them keep what they held
-pub record NowHas {E : Type 0} (before after : borrowed.List E) (now-in-it : List E) : Type 0 where
-  pub holds : entries after ≡ now-in-it
-  pub behind : memory after ≡ now-in-it ++ drop (length now-in-it) (memory before)
+pub record NowHas {E : Type 0} (before after : borrowed.List E) (now_in_it : List E) : Type 0 where
+  pub holds : entries after ≡ now_in_it
+  pub behind : memory after ≡ now_in_it ++ drop (length now_in_it) (memory before)
   pub room : most after ≡ most before
   pub lent : after.slots.ghost_name ≡ before.slots.ghost_name
 

@@ -2,7 +2,7 @@
 use Rattle.std.proofs.Common.{◌≡◌, ℕ, suc, ◌+◌, ◌<◌, Bool, true, ◌&&◌, ◌||◌, List, [], ◌∷◌, ◌++◌, length, get_or, take, drop, set, Decides, sym, refl, ap, ◌∙◌, take-append-drop}
 use mathlib.Core.Bool.{and_assoc, and-true, or_assoc, or-false}
 use Rattle.std.specs.List.Sorted.{IsPermutation}
-use Rattle.std.specs.List.{AllByRecursion as All}
+use Rattle.std.specs.List.{AllByRecursion}
 use Rattle.std.proofs.lemmas.List.{take_more, drop_more, set_split}
 use Rattle.std.proofs.ByRecursion.{all_shuffled, Decides-by_and}
 use Rattle.std.proofs.lemmas.Bool.{and_from, and_parts, or_right, or_left}
@@ -18,7 +18,7 @@ module _ {X : Type 0} (p : X → Bool) where
   any_append (x ∷ xs) ys = ap (λ b. p x || b) (any_append xs ys) ∙ sym (or_assoc (p x) (any p xs) (any p ys))
 
   -- a test that passes at every element passes at each
-  pub all_each : (xs : List X) → Decides (all p xs) (All (λ x. p x ≡ true) xs)
+  pub all_each : (xs : List X) → Decides (all p xs) (AllByRecursion (λ x. p x ≡ true) xs)
   all_each xs = Decides-by_and p (λ x. p x ≡ true) (all p) (λ x. (λ e. e, λ e. e)) refl (λ _ _. refl) xs
 
   -- it does so in another order
