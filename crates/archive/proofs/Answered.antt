@@ -9,7 +9,8 @@ use Rattle.archive.specs.declared.changes.Change.{Change}
 use Rattle.labels.specs.Guards.{meet}
 use Rattle.queries.specs.Arms.{Asked, shown_cells}
 use Rattle.queries.specs.Tests.{passes}
-use Rattle.rows.specs.Cells.{same_number, cell}
+use Rattle.rows.specs.Cells.{cell}
+use Rattle.std.specs.Ordering.{int_eq}
 use Rattle.stores.specs.Tables.{Facet}
 use Rattle.archive.specs.Askings.{seen, spread, pair, source_rows, arm_row, arm_rows, query_rows}
 use Rattle.archive.specs.Plain.{Plain, plain_changed, plain_pair, plain_source, plain_arm, plain_answer}
@@ -41,7 +42,7 @@ module _ (c : ℕ) where
 
         one : (reading : Facet Cells) → seen c (pair f r file reading) ≡ cond (reading.guard c) (cond (file.guard c) (plain_pair f r file.held reading.held) []) []
         one reading =
-            seen_if (same_number (cell f file.held) (cell r reading.held)) (record { guard = meet file.guard reading.guard; held = file.held.values ++ reading.held.values })
+            seen_if (int_eq (cell f file.held) (cell r reading.held)) (record { guard = meet file.guard reading.guard; held = file.held.values ++ reading.held.values })
             ∙ either_order (file.guard c) (reading.guard c) (plain_pair f r file.held reading.held)
 
     seen_source : (source : Source) → seen c (source_rows files readings source) ≡ plain_source (plain_seen files readings) source

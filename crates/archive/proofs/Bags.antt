@@ -3,6 +3,7 @@ use Rattle.std.proofs.Common.{◌≡◌, ℕ, ◌+◌, Bool, true, false, cond, 
 use mathlib.Core.Path.{fun_ext}
 use Rattle.std.specs.List.Sorted.{IsPermutation}
 use Rattle.std.specs.List.{flat_map}
+use Rattle.std.proofs.lemmas.List.Concat.{flat_map_single}
 use Rattle.std.proofs.lemmas.List.Sorted.{sum_by-IsPermutation}
 use Rattle.std.proofs.lemmas.List.Sums.{sum_by-cons, sum_by-append}
 use Rattle.std.proofs.lemmas.Bool.{cond-false}
@@ -50,13 +51,8 @@ module _ {X Y : Type 0} where
   bag_joined_each f g each xs =
       record { sums = λ weight. sum_by_joined weight f xs ∙ ap (λ h. sum_by h xs) (fun_ext (λ x. (each x).sums weight)) ∙ sym (sum_by_joined weight g xs) }
 
-  -- a map joins lists of one
-  pub map_joined : (f : X → Y) (xs : List X) → map f xs ≡ flat_map (λ x. f x ∷ []) xs
-  map_joined f [] = refl
-  map_joined f (x ∷ xs) = ap (f x ∷◌) (map_joined f xs)
-
   pub bag_map : (f : X → Y) {xs ys : List X} → SameBag xs ys → SameBag (map f xs) (map f ys)
-  bag_map f {xs} {ys} bag = bag_trans (bag_equal (map_joined f xs)) (bag_trans (bag_joined (λ x. f x ∷ []) bag) (bag_equal (sym (map_joined f ys))))
+  bag_map f {xs} {ys} bag = bag_trans (bag_equal (sym (flat_map_single f xs))) (bag_trans (bag_joined (λ x. f x ∷ []) bag) (bag_equal (flat_map_single f ys)))
 
   joined_none : (xs : List X) → flat_map {A = Y} (λ x. []) xs ≡ []
   joined_none [] = refl
@@ -88,7 +84,3 @@ module _ {X : Type 0} where
       here : (b : Bool) → q x ≡ b → filter p (filter q xs) ≡ filter p xs → filter p (cond b (x ∷ filter q xs) (filter q xs)) ≡ filter p (x ∷ xs)
       here true is same = ap (λ rest. cond (p x) (x ∷ rest) rest) same
       here false is same = same ∙ sym (cond-false (p x) _ _ (refused x is))
-
-  pub joined_alone : (xs : List X) → flat_map (λ x. x ∷ []) xs ≡ xs
-  joined_alone [] = refl
-  joined_alone (x ∷ xs) = ap (x ∷◌) (joined_alone xs)

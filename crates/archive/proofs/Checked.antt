@@ -1,52 +1,22 @@
 -- The checks of a statement, one after the other. Assumes nothing.
-use Rattle.std.proofs.Common.{◌≡◌, ℕ, suc, ◌+◌, ◌<◌, ◌≤◌, Bool, true, false, cond, ltb, leb, List, [], ◌∷◌, ◌++◌, map, length, get_or, drop, Some, None, Ok, Err, Option, Result, sym, refl, ap, ◌∙◌, subst, add-one, arith}
-use Rattle.std.proofs.lemmas.List.{append-nil, drop_all, drop_more, length-append, map-append}
+use Rattle.std.proofs.Common.{◌≡◌, ℕ, ◌+◌, ◌<◌, ◌≤◌, Bool, true, false, cond, leb, List, [], ◌∷◌, ◌++◌, map, length, Some, None, Ok, Err, Option, Result, sym, refl, ap, ◌∙◌, subst, arith}
+use Rattle.std.proofs.lemmas.List.{append-nil, length-append, map-append}
 use Rattle.std.specs.List.Sorted.{IsPermutation}
 use Rattle.std.proofs.lemmas.List.Sorted.{IsPermutation-refl}
-use Rattle.std.proofs.lemmas.Bool.{cond-true, cond-false, le-leb, leb-true, lt-leb, le-ltb, lt-ltb}
+use Rattle.std.proofs.lemmas.Bool.{le-leb, leb-true}
 use Rattle.faults.specs.declared.Fault.{Fault}
-use Rattle.faults.specs.declared.Refusal.TheVariants.{TableFull, UnknownLabel}
+use Rattle.faults.specs.declared.Refusal.TheVariants.{TableFull}
 use Rattle.labels.specs.declared.literals.Literal.{Literal}
-use Rattle.queries.specs.declared.nodes.Node.{Node}
 use Rattle.rows.specs.declared.cells.Cells.{Cells}
-use Rattle.archive.specs.declared.changes.Change.{Change}
-use Rattle.faults.specs.Faults.{fault}
+use Rattle.faults.specs.Faults.{fault, answered, first_told}
 use Rattle.labels.specs.Paths.{path_guard}
-use Rattle.queries.specs.Tests.{answered, first_told, test_fault}
+use Rattle.queries.specs.Tests.{test_fault}
 use Rattle.stores.specs.Changes.{Add, Appended, SameMaking}
 use Rattle.stores.specs.Tables.{Facet, Table, Bounded, count, touches}
-use Rattle.archive.specs.Rules.{NowHolds, add_fault, added_rows, at_kept, change_fault, columns_fault, path_fault, path_fault_from, rewritten_rows, room_fault}
-use Rattle.archive.specs.Turns.{view}
+use Rattle.archive.specs.Rules.{NowHolds, add_fault, added_rows, at_kept, change_fault, columns_fault, path_fault, rewritten_rows, room_fault}
+use Rattle.archive.specs.Turns.{Given, ruled, view}
 use Rattle.archive.proofs.Front.{same_making}
 use Rattle.archive.proofs.Views.{view_appended}
-
--- what is left of a path to check
-pub labels_more : (known : ℕ) (path : List Literal) (i : ℕ) (d : Literal) (k : ℕ) → k ≡ known → i < length path → (get_or path i d).label < k → path_fault_from known i (drop i path) ≡ path_fault_from known (i + 1) (drop (i + 1) path)
-labels_more known path i d k same within small =
-    ap (path_fault_from known i) (drop_more path i d within)
-    ∙ cond-true (ltb (get_or path i d).label known) (path_fault_from known (suc i) (drop (i + 1) path)) (Some (fault UnknownLabel i)) (lt-ltb (get_or path i d).label known (omega arith))
-    ∙ ap (λ n. path_fault_from known n (drop (i + 1) path)) (sym (add-one i))
-
-pub labels_told : (known : ℕ) (path : List Literal) (i : ℕ) (d : Literal) (k : ℕ) → k ≡ known → i < length path → k ≤ (get_or path i d).label → path_fault_from known i (drop i path) ≡ Some (fault UnknownLabel i)
-labels_told known path i d k same within large =
-    ap (path_fault_from known i) (drop_more path i d within)
-    ∙ cond-false (ltb (get_or path i d).label known) (path_fault_from known (suc i) (drop (i + 1) path)) (Some (fault UnknownLabel i)) (le-ltb (get_or path i d).label known (omega arith))
-
-pub labels_end : (known : ℕ) (path : List Literal) (i : ℕ) → length path ≤ i → path_fault_from known i (drop i path) ≡ None
-labels_end known path i past = ap (path_fault_from known i) (drop_all i path past)
-
--- a check that is passed leaves the next one, and one that tells is the answer
-pub passed_on : (first rest : Option Fault) → Ok tt ≡ answered first → answered rest ≡ answered (first_told first rest)
-passed_on None rest told = refl
-passed_on (Some f) rest told = absurd (let z : ◌≡◌ {A = ℕ} 0 1 = cc in omega arith)
-
-pub told_first : (first rest : Option Fault) (f : Fault) → Err f ≡ answered first → Err f ≡ answered (first_told first rest)
-told_first None rest f told = absurd (let z : ◌≡◌ {A = ℕ} 0 1 = cc in omega arith)
-told_first (Some g) rest f told = told
-
--- an answer is not both
-pub never_ok : {r : Result (Unit {0}) Fault} {f : Fault} → r ≡ Err f → r ≡ Ok tt → ⊥
-never_ok err ok = let z : ◌≡◌ {A = ℕ} 0 1 = cc in omega arith
 
 pub never_err : {f : Fault} → ◌≡◌ {A = Result (Unit {0}) Fault} (Ok tt) (Err f) → ⊥
 never_err is = let z : ◌≡◌ {A = ℕ} 0 1 = cc in omega arith
@@ -65,12 +35,13 @@ room_fits table place rows told = go (leb (length rows) table.capacity) refl
     go false large = absurd (never_err (told ∙ ap (λ b. answered (cond b None (Some (fault TableFull place)))) large))
 
 -- where nothing is told of a set or a cut, its rows fit
-pub rows_fit : (place : ℕ) (table : Table) (known : ℕ) (path : List Literal) (test : List Node) (change : Change) → Ok tt ≡ answered (change_fault place table known path test change) → length (rewritten_rows table known path test change) ≤ table.capacity
-rows_fit place table known path test change fine =
-    let room = room_fault table place (rewritten_rows table known path test change) in
-    let columns = columns_fault test change in
-    room_fits table place (rewritten_rows table known path test change)
-    (last_told columns room (last_told (path_fault known path) (first_told columns room) (last_told (test_fault test) (first_told (path_fault known path) (first_told columns room)) fine)))
+pub rows_fit : (place : ℕ) (table : Table) (given : Given) → Ok tt ≡ answered (ruled (change_fault place table) given) → length (ruled (rewritten_rows table) given) ≤ table.capacity
+rows_fit place table given fine =
+    let room = room_fault table place (ruled (rewritten_rows table) given) in
+    let columns = columns_fault given.test given.change in
+    let path = path_fault given.known given.path in
+    room_fits table place (ruled (rewritten_rows table) given)
+    (last_told columns room (last_told path (first_told columns room) (last_told (test_fault given.test) (first_told path (first_told columns room)) fine)))
 
 -- adding a row
 module _ (before after : Table) (known : ℕ) (path : List Literal) (cells : Cells) where
@@ -87,9 +58,6 @@ module _ (before after : Table) (known : ℕ) (path : List Literal) (cells : Cel
   add_fits : (place : ℕ) → length (added_rows before known path cells) ≤ before.capacity → Ok tt ≡ answered (room_fault before place (added_rows before known path cells))
   add_fits place fits = sym (ap (λ b. answered (cond b None (Some (fault TableFull place)))) (le-leb (length (added_rows before known path cells)) before.capacity fits))
 
-  add_full_told : (place : ℕ) → before.capacity < length (added_rows before known path cells) → Err (fault TableFull place) ≡ answered (room_fault before place (added_rows before known path cells))
-  add_full_told place full = sym (ap (λ b. answered (cond b None (Some (fault TableFull place)))) (lt-leb (length (added_rows before known path cells)) before.capacity full))
-
   -- how many rows there are then
   rows_then : (b : Bool) → touches before (path_guard known path) ≡ b → length (added_rows before known path cells) ≡ count before + cond b 1 0
   rows_then true touch = ap length (touching_rows touch) ∙ length-append before.rows (row ∷ [])
@@ -105,9 +73,6 @@ module _ (before after : Table) (known : ℕ) (path : List Literal) (cells : Cel
 
   pub fits_apart : (place : ℕ) → Bounded before → touches before (path_guard known path) ≡ false → Ok tt ≡ answered (room_fault before place (added_rows before known path cells))
   fits_apart place bound apart = add_fits place (omega (arith, rows_then false apart, bound.rows))
-
-  pub full_told : (place : ℕ) → before.capacity ≤ count before → touches before (path_guard known path) ≡ true → Err (fault TableFull place) ≡ answered (room_fault before place (added_rows before known path cells))
-  full_told place full touch = add_full_told place (omega (arith, rows_then true touch))
 
   -- where nothing is told, a row that touches the table has room
   pub room_told : (place : ℕ) → Ok tt ≡ answered (add_fault place before known path cells) → touches before (path_guard known path) ≡ true → count before < before.capacity

@@ -1,8 +1,8 @@
 -- The row test is equality, a guard touches a table by a choice, and each call has a step. Assumes nothing.
-use Rattle.std.proofs.Common.{◌≡◌, ℕ, ◌^◌, ◌<◌, Bool, true, ◌&&◌, eqb, List, [], ◌∷◌, ◌++◌, map, length, drop, ℤ, pos, negsuc, Some, None, Ok, Err, Decides, Option, Result, refl, ap, ap₂}
+use Rattle.std.proofs.Common.{◌≡◌, ℕ, ◌^◌, ◌<◌, Bool, true, ◌&&◌, List, [], ◌∷◌, ◌++◌, map, length, drop, ℤ, Some, None, Ok, Err, Decides, Option, Result, refl, ap, ap₂}
 use Rattle.std.proofs.lemmas.List.Sorted.{IsPermutation-refl}
 use Rattle.std.proofs.lemmas.Bool.{and_from, and_parts, false≢true}
-use Rattle.std.proofs.lemmas.Bool.Decides.{Decides-like, Decides-and, Decides-eqb}
+use Rattle.std.proofs.lemmas.Bool.Decides.{Decides-like, Decides-and, Decides-int_eq}
 use Rattle.faults.specs.declared.Fault.{Fault}
 use Rattle.labels.specs.declared.literals.Literal.{Literal}
 use Rattle.queries.specs.declared.nodes.Node.{Node}
@@ -13,7 +13,7 @@ use Rattle.archive.specs.declared.changes.TableName.TheVariants.{Files, Readings
 use Rattle.labels.specs.Guards.{meet}
 use Rattle.policies.specs.Passes.{resolved}
 use Rattle.queries.specs.Arms.{Asked}
-use Rattle.rows.specs.Cells.{same_number}
+use Rattle.std.specs.Ordering.{int_eq}
 use Rattle.stores.specs.Tables.{Facet, Table, touches}
 use Rattle.words.proofs.Searched.{some_choice_one}
 use Rattle.archive.specs.Askings.{ask_fault, query_rows, seen}
@@ -22,19 +22,13 @@ use Rattle.archive.specs.Plain.{same_numbers}
 use Rattle.archive.specs.Rules.{NowHolds, at_kept, add_fault, added_rows, change_fault, rewritten_rows, touching}
 use Rattle.archive.specs.Runs.{Tables, table_of, place_of, Asking, adding, changing, asking, Only, Step}
 
--- the test of two numbers is equality
-same_number_is : (a b : ℤ) → Decides (same_number a b) (a ≡ b)
-same_number_is (pos a) (pos b) = Decides-like (eqb a b) (ap pos) (λ e. cc) (Decides-eqb a b)
-same_number_is (pos a) (negsuc b) = (λ f. absurd (false≢true f), λ e. cc)
-same_number_is (negsuc a) (pos b) = (λ f. absurd (false≢true f), λ e. cc)
-same_number_is (negsuc a) (negsuc b) = Decides-like (eqb a b) (ap negsuc) (λ e. cc) (Decides-eqb a b)
-
+-- the test of two lists of numbers is equality
 same_numbers_is : (xs ys : List ℤ) → Decides (same_numbers xs ys) (xs ≡ ys)
 same_numbers_is [] [] = (λ _. refl, λ _. refl)
 same_numbers_is [] (y ∷ ys) = (λ f. absurd (false≢true f), λ e. cc)
 same_numbers_is (x ∷ xs) [] = (λ f. absurd (false≢true f), λ e. cc)
 same_numbers_is (x ∷ xs) (y ∷ ys) =
-    Decides-like (same_number x y && same_numbers xs ys) (λ both. ap₂ ◌∷◌ both.0 both.1) (λ e. (cc, cc)) (Decides-and (same_number x y) (same_numbers xs ys) (same_number_is x y) (same_numbers_is xs ys))
+    Decides-like (int_eq x y && same_numbers xs ys) (λ both. ap₂ ◌∷◌ both.0 both.1) (λ e. (cc, cc)) (Decides-and (int_eq x y) (same_numbers xs ys) (Decides-int_eq x y) (same_numbers_is xs ys))
 
 -- the test of two rows is equality
 row_test_is : (a b : Cells) → Decides (same_numbers a.values b.values) (a ≡ b)

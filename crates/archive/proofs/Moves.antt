@@ -1,62 +1,28 @@
 -- Lists in another order, and lists of parts taken apart. Assumes nothing.
 use Rattle.std.proofs.Common.{◌≡◌, ℕ, suc, ◌+◌, ◌<◌, ◌≤◌, Bool, true, false, cond, List, [], ◌∷◌, ◌++◌, map, length, get_or, take, drop, set, filter, sym, refl, ap, ◌∙◌, subst, ap₂, arith, length-take-le}
 use Rattle.std.specs.List.Sorted.{IsPermutation}
-use Rattle.std.specs.List.{flat_map}
-use Rattle.std.proofs.lemmas.List.{append_assoc, append-nil, map-append, length-append, length-map, length-set, length-drop, take-append-drop, take_more, get_or_at, drop_more, set_at, flat_map_more, map_more, drop_all, take_all}
-use Rattle.std.proofs.lemmas.List.Sorted.{IsPermutation-refl, IsPermutation-cons, IsPermutation-trans, IsPermutation-swap, length_permutation}
+use Rattle.std.specs.List.{flat_map, list_all}
+use Rattle.std.proofs.lemmas.List.{append_assoc, append-nil, map-append, length-append, length-map, length-set, length-drop, take-append-drop, take_more, get_or_at, drop_more, set_at, flat_map_more, map_more}
+use Rattle.std.proofs.lemmas.List.Concat.{flat_map-append}
+use Rattle.std.proofs.lemmas.List.Sorted.{IsPermutation-refl, IsPermutation-append_comm, IsPermutation-append_left, IsPermutation-append_right, IsPermutation-cons, IsPermutation-trans, length_permutation}
 use Rattle.std.proofs.lemmas.Bool.{and_from, and_parts, both_ways}
-use Rattle.words.specs.Lists.{all}
 use Rattle.words.proofs.Walked.{all_at}
 use Rattle.archive.specs.Turns.{some_left, placed}
 
-module _ {X : Type 0} where
-  -- one element moves behind others
-  pub moved_behind : (x : X) (ys zs : List X) → IsPermutation (x ∷ (ys ++ zs)) (ys ++ x ∷ zs)
-  moved_behind x [] zs = IsPermutation-refl (x ∷ zs)
-  moved_behind x (y ∷ ys) zs =
-      IsPermutation-trans (x ∷ (y ∷ (ys ++ zs))) (y ∷ (x ∷ (ys ++ zs))) (y ∷ (ys ++ x ∷ zs))
-      (IsPermutation-swap (x ∷ (y ∷ (ys ++ zs))) (y ∷ (x ∷ (ys ++ zs))) 0 1 (omega arith) (omega arith) refl)
-      (IsPermutation-cons y (x ∷ (ys ++ zs)) (ys ++ x ∷ zs) (moved_behind x ys zs))
+-- several elements move behind others
+pub moved_over : {X : Type 0} (xs ys zs : List X) → IsPermutation (xs ++ (ys ++ zs)) (ys ++ (xs ++ zs))
+moved_over xs ys zs = simp append_assoc at (IsPermutation-append_left zs (xs ++ ys) (ys ++ xs) (IsPermutation-append_comm xs ys))
 
-  -- several move behind others
-  pub moved_over : (xs ys zs : List X) → IsPermutation (xs ++ (ys ++ zs)) (ys ++ (xs ++ zs))
-  moved_over [] ys zs = IsPermutation-refl (ys ++ zs)
-  moved_over (x ∷ xs) ys zs =
-      IsPermutation-trans (x ∷ (xs ++ (ys ++ zs))) (x ∷ (ys ++ (xs ++ zs))) (ys ++ x ∷ (xs ++ zs))
-      (IsPermutation-cons x (xs ++ (ys ++ zs)) (ys ++ (xs ++ zs)) (moved_over xs ys zs))
-      (moved_behind x ys (xs ++ zs))
+-- the first elements make no more than all
+pub joined_front : {X Y : Type 0} (f : X → List Y) (xs : List X) (i : ℕ) → length (flat_map f (take i xs)) ≤ length (flat_map f xs)
+joined_front f xs i =
+    let whole : length (flat_map f xs) ≡ length (flat_map f (take i xs)) + length (flat_map f (drop i xs)) =
+    ap (λ ys. length (flat_map f ys)) (sym (take-append-drop i xs)) ∙ ap length (flat_map-append f (take i xs) (drop i xs)) ∙ length-append (flat_map f (take i xs)) (flat_map f (drop i xs)) in
+    omega arith
 
-  -- behind the same elements
-  pub shuffled_behind : (xs ys zs : List X) → IsPermutation ys zs → IsPermutation (xs ++ ys) (xs ++ zs)
-  shuffled_behind [] ys zs moved = moved
-  shuffled_behind (x ∷ xs) ys zs moved = IsPermutation-cons x (xs ++ ys) (xs ++ zs) (shuffled_behind xs ys zs moved)
-
-module _ {X Y : Type 0} (f g : X → List Y) where
-  -- the same function makes the same list
-  pub joined_same : ((x : X) → f x ≡ g x) → (xs : List X) → flat_map f xs ≡ flat_map g xs
-  joined_same same [] = refl
-  joined_same same (x ∷ xs) = ap₂ ◌++◌ (same x) (joined_same same xs)
-
-module _ {X Y : Type 0} (f : X → List Y) where
-  pub joined_append : (xs ys : List X) → flat_map f (xs ++ ys) ≡ flat_map f xs ++ flat_map f ys
-  joined_append [] ys = refl
-  joined_append (x ∷ xs) ys = ap (f x ++◌) (joined_append xs ys) ∙ sym (append_assoc (f x) (flat_map f xs) (flat_map f ys))
-
-  -- the first elements make no more than all
-  pub joined_front : (xs : List X) (i : ℕ) → length (flat_map f (take i xs)) ≤ length (flat_map f xs)
-  joined_front xs i =
-      let whole : length (flat_map f xs) ≡ length (flat_map f (take i xs)) + length (flat_map f (drop i xs)) =
-      ap (λ ys. length (flat_map f ys)) (sym (take-append-drop i xs)) ∙ ap length (joined_append (take i xs) (drop i xs)) ∙ length-append (flat_map f (take i xs)) (flat_map f (drop i xs)) in
-      omega arith
-
-module _ {X Y Z : Type 0} (f : X → List Y) where
-  pub map_joined : (h : Y → Z) (xs : List X) → map h (flat_map f xs) ≡ flat_map (λ x. map h (f x)) xs
-  map_joined h [] = refl
-  map_joined h (x ∷ xs) = map-append h (f x) (flat_map f xs) ∙ ap (map h (f x) ++◌) (map_joined h xs)
-
-  pub joined_map : (h : Z → X) (zs : List Z) → flat_map f (map h zs) ≡ flat_map (λ z. f (h z)) zs
-  joined_map h [] = refl
-  joined_map h (z ∷ zs) = ap (f (h z) ++◌) (joined_map h zs)
+pub map_joined : {X Y Z : Type 0} (f : X → List Y) (h : Y → Z) (xs : List X) → map h (flat_map f xs) ≡ flat_map (λ x. map h (f x)) xs
+map_joined f h [] = refl
+map_joined f h (x ∷ xs) = map-append h (f x) (flat_map f xs) ∙ ap (map h (f x) ++◌) (map_joined f h xs)
 
 module _ {X : Type 0} (r : X → List X) where
   -- the first part of an element, and the others
@@ -82,28 +48,28 @@ module _ {X : Type 0} (r : X → List X) where
       go [] none more = ap (λ zs. flat_map r (cond (some_left zs) (x ∷ filter (λ y. some_left (r y)) xs) (filter (λ y. some_left (r y)) xs))) none ∙ more ∙ sym (ap (λ zs. zs ++ flat_map r xs) none)
       go (y ∷ ys) some more = ap (λ zs. flat_map r (cond (some_left zs) (x ∷ filter (λ y. some_left (r y)) xs) (filter (λ y. some_left (r y)) xs))) some ∙ ap (r x ++◌) more
 
-  pub kept_left : (xs : List X) → all (λ x. some_left (r x)) (filter (λ x. some_left (r x)) xs) ≡ true
+  pub kept_left : (xs : List X) → list_all (λ x. some_left (r x)) (filter (λ x. some_left (r x)) xs) ≡ true
   kept_left [] = refl
   kept_left (x ∷ xs) = go (some_left (r x)) refl (kept_left xs)
     where
-      go : (b : Bool) → some_left (r x) ≡ b → all (λ y. some_left (r y)) (filter (λ y. some_left (r y)) xs) ≡ true → all (λ y. some_left (r y)) (cond b (x ∷ filter (λ y. some_left (r y)) xs) (filter (λ y. some_left (r y)) xs)) ≡ true
-      go true some more = and_from (some_left (r x)) (all (λ y. some_left (r y)) (filter (λ y. some_left (r y)) xs)) some more
+      go : (b : Bool) → some_left (r x) ≡ b → list_all (λ y. some_left (r y)) (filter (λ y. some_left (r y)) xs) ≡ true → list_all (λ y. some_left (r y)) (cond b (x ∷ filter (λ y. some_left (r y)) xs) (filter (λ y. some_left (r y)) xs)) ≡ true
+      go true some more = and_from (some_left (r x)) (list_all (λ y. some_left (r y)) (filter (λ y. some_left (r y)) xs)) some more
       go false none more = more
 
   -- the first parts and then the others are all the parts in another order
-  pub all_parts : (xs : List X) → all (λ x. some_left (r x)) xs ≡ true → IsPermutation (flat_map r xs) (map first_of xs ++ flat_map others_of xs)
+  pub all_parts : (xs : List X) → list_all (λ x. some_left (r x)) xs ≡ true → IsPermutation (flat_map r xs) (map first_of xs ++ flat_map others_of xs)
   all_parts [] left = IsPermutation-refl []
   all_parts (x ∷ xs) left =
-      let both = and_parts (some_left (r x)) (all (λ y. some_left (r y)) xs) left in
+      let both = and_parts (some_left (r x)) (list_all (λ y. some_left (r y)) xs) left in
       let more = all_parts xs both.1 in
       let firsts = map first_of xs in
       let others = flat_map others_of xs in
       let moved : IsPermutation (others_of x ++ flat_map r xs) (firsts ++ (others_of x ++ others)) =
-      IsPermutation-trans (others_of x ++ flat_map r xs) (others_of x ++ (firsts ++ others)) (firsts ++ (others_of x ++ others)) (shuffled_behind (others_of x) (flat_map r xs) (firsts ++ others) more) (moved_over (others_of x) firsts others) in
+      IsPermutation-trans (others_of x ++ flat_map r xs) (others_of x ++ (firsts ++ others)) (firsts ++ (others_of x ++ others)) (IsPermutation-append_right (others_of x) (flat_map r xs) (firsts ++ others) more) (moved_over (others_of x) firsts others) in
       subst (λ ys. IsPermutation (ys ++ flat_map r xs) (first_of x ∷ (firsts ++ (others_of x ++ others)))) (sym (apart x both.0)) (IsPermutation-cons (first_of x) (others_of x ++ flat_map r xs) (firsts ++ (others_of x ++ others)) moved)
 
   -- how many there are
-  pub count_parts : (xs : List X) → all (λ x. some_left (r x)) xs ≡ true → length (flat_map r xs) ≡ length xs + length (flat_map others_of xs)
+  pub count_parts : (xs : List X) → list_all (λ x. some_left (r x)) xs ≡ true → length (flat_map r xs) ≡ length xs + length (flat_map others_of xs)
   count_parts xs left = sym (length_permutation (flat_map r xs) (map first_of xs ++ flat_map others_of xs) (all_parts xs left)) ∙ length-append (map first_of xs) (flat_map others_of xs) ∙ ap (λ n. n + length (flat_map others_of xs)) (length-map xs first_of)
 
   -- as far as the first i elements are taken apart: their first parts, the elements still to come, and the other parts
@@ -132,12 +98,6 @@ module _ {X : Type 0} (r : X → List X) where
       long : length firsts ≡ i
       long = length-map (take i xs) first_of ∙ length-take-le i xs (omega arith)
 
-  pub spread_none : (xs : List X) → spread_to 0 xs ≡ xs
-  spread_none xs = append-nil xs
-
-  pub spread_all : (xs : List X) (i : ℕ) → length xs ≤ i → spread_to i xs ≡ map first_of xs ++ flat_map others_of xs
-  spread_all xs i past = ap₂ (λ ys zs. map first_of ys ++ (zs ++ flat_map others_of ys)) (take_all i xs past) (drop_all i xs past)
-
   -- what stands at the next element, and the room that it needs
   pub spread_at : (xs : List X) (i : ℕ) (d : X) → i < length xs → get_or (spread_to i xs) i d ≡ get_or xs i d
   spread_at xs i d within =
@@ -150,7 +110,7 @@ module _ {X : Type 0} (r : X → List X) where
       ∙ ap₂ ◌+◌ (length-map (take i xs) first_of ∙ length-take-le i xs within) (length-append (drop i xs) (flat_map others_of (take i xs)) ∙ ap (λ n. n + length (flat_map others_of (take i xs))) (length-drop i xs))
       ∙ omega arith
 
-  pub spread_room : (xs : List X) (i : ℕ) (d : X) → i < length xs → all (λ x. some_left (r x)) xs ≡ true → length (spread_to i xs) + length (r (get_or xs i d)) ≤ length (flat_map r xs) + 1
+  pub spread_room : (xs : List X) (i : ℕ) (d : X) → i < length xs → list_all (λ x. some_left (r x)) xs ≡ true → length (spread_to i xs) + length (r (get_or xs i d)) ≤ length (flat_map r xs) + 1
   spread_room xs i d within left =
       let x = get_or xs i d in
       let parts : length (r x) ≡ suc (length (others_of x)) = ap length (apart x (all_at (λ y. some_left (r y)) xs i d within left)) in

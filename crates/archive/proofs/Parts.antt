@@ -4,9 +4,7 @@ use mathlib.Core.Path.{fun_ext}
 use mathlib.Core.Bool.{and_assoc}
 use Rattle.std.proofs.lemmas.List.{map-append}
 use Rattle.labels.specs.declared.literals.Literal.{Literal}
-use Rattle.queries.specs.declared.nodes.Node.{Node}
 use Rattle.rows.specs.declared.cells.Cells.{Cells}
-use Rattle.archive.specs.declared.changes.Change.{Change}
 use Rattle.labels.specs.Guards.{literal_guard, meet}
 use Rattle.labels.specs.Literals.{opposite}
 use Rattle.labels.specs.Paths.{path_guard}
@@ -14,14 +12,14 @@ use Rattle.queries.specs.Tests.{passes}
 use Rattle.stores.specs.Tables.{Facet, Table, touches, empty_table}
 use Rattle.words.specs.Bits.{some_choice}
 use Rattle.archive.specs.Rules.{at_kept, changed, under, outside, concerned, rewritten}
-use Rattle.archive.specs.Turns.{parts}
+use Rattle.archive.specs.Turns.{Given, ruled, parts}
 
 -- tables that keep the same choices make the same of a row
-pub same_rewritten : (a b : Table) (known : ℕ) (path : List Literal) (test : List Node) (change : Change) → b.keeps ≡ a.keeps → rewritten b known path test change ≡ rewritten a known path test change
-same_rewritten a b known path test change e = ap (λ k. rewritten (empty_table k 0) known path test change) e
+pub same_rewritten : (a b : Table) (given : Given) → b.keeps ≡ a.keeps → ruled (rewritten b) given ≡ ruled (rewritten a) given
+same_rewritten a b given e = ap (λ k. ruled (rewritten (empty_table k 0)) given) e
 
-pub same_parts : (a b : Table) (known : ℕ) (path : List Literal) (test : List Node) (change : Change) → b.keeps ≡ a.keeps → parts b known path test change ≡ parts a known path test change
-same_parts a b known path test change e = ap (λ k. parts (empty_table k 0) known path test change) e
+pub same_parts : (a b : Table) (given : Given) → b.keeps ≡ a.keeps → parts b given ≡ parts a given
+same_parts a b given e = ap (λ k. parts (empty_table k 0) given) e
 
 module _ (table : Table) where
   abbrev keeps : ℕ → Bool
@@ -59,12 +57,18 @@ module _ (table : Table) where
   inside_alike g h (x ∷ cells) same = ap₂ ◌∷◌ (shown_alike g h x same) (inside_alike g h cells same)
 
   -- so do all the parts of a row
-  pub parts_alike : (known : ℕ) (path : List Literal) (test : List Node) (change : Change) (row other : Facet Cells) → at_kept keeps row ≡ at_kept keeps other → parts table known path test change row ≡ parts table known path test change other
-  parts_alike known path test change row other same =
-      ap (λ cells. parts table known path test change record { guard = row.guard; held = cells }) (ap (λ f. f.held) same)
-      ∙ ap (λ b. map (at_kept keeps) (cond b (split row.guard) (whole row.guard))) (ap (λ b. passes test cells.values && b) (ap some_choice within))
-      ∙ both (concerned table known path test other)
+  pub parts_alike : (given : Given) (row other : Facet Cells) → at_kept keeps row ≡ at_kept keeps other → parts table given row ≡ parts table given other
+  parts_alike given row other same =
+      ap (λ cells. parts table given record { guard = row.guard; held = cells }) (ap (λ f. f.held) same)
+      ∙ ap (λ b. map (at_kept keeps) (cond b (split row.guard) (whole row.guard))) (ap (λ b. passes given.test cells.values && b) (ap some_choice within))
+      ∙ both (concerned table known path given.test other)
     where
+      known : ℕ
+      known = given.known
+
+      path : List Literal
+      path = given.path
+
       cells : Cells
       cells = other.held
 
@@ -75,14 +79,14 @@ module _ (table : Table) where
       within = alike_meet row.guard other.guard (path_guard known path) alike_guards
 
       split : (ℕ → Bool) → List (Facet Cells)
-      split g = under (meet g (path_guard known path)) (changed change other.held) ++ outside table known path record { guard = g; held = other.held }
+      split g = under (meet g (path_guard known path)) (changed given.change other.held) ++ outside table known path record { guard = g; held = other.held }
 
       whole : (ℕ → Bool) → List (Facet Cells)
       whole g = record { guard = g; held = other.held } ∷ []
 
       both : (b : Bool) → map (at_kept keeps) (cond b (split row.guard) (whole row.guard)) ≡ map (at_kept keeps) (cond b (split other.guard) (whole other.guard))
       both true =
-          map-append (at_kept keeps) (under (meet row.guard (path_guard known path)) (changed change other.held)) (outside table known path record { guard = row.guard; held = other.held })
-          ∙ ap₂ ◌++◌ (inside_alike (meet row.guard (path_guard known path)) (meet other.guard (path_guard known path)) (changed change other.held) within) (outside_alike known path row.guard other.guard other.held alike_guards)
-          ∙ sym (map-append (at_kept keeps) (under (meet other.guard (path_guard known path)) (changed change other.held)) (outside table known path other))
+          map-append (at_kept keeps) (under (meet row.guard (path_guard known path)) (changed given.change other.held)) (outside table known path record { guard = row.guard; held = other.held })
+          ∙ ap₂ ◌++◌ (inside_alike (meet row.guard (path_guard known path)) (meet other.guard (path_guard known path)) (changed given.change other.held) within) (outside_alike known path row.guard other.guard other.held alike_guards)
+          ∙ sym (map-append (at_kept keeps) (under (meet other.guard (path_guard known path)) (changed given.change other.held)) (outside table known path other))
       both false = ap (λ r. r ∷ []) (shown_alike row.guard other.guard other.held alike_guards)

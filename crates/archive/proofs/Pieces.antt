@@ -2,7 +2,8 @@
 use Rattle.std.proofs.Common.{◌≡◌, ℕ, ◌^◌, ◌<◌, Bool, true, false, cond, not, ◌&&◌, ltb, List, [], ◌∷◌, ◌++◌, map, sym, refl, ap, ◌∙◌, ap₂}
 use mathlib.Core.Bool.{not-not}
 use Rattle.std.specs.List.{flat_map}
-use Rattle.std.proofs.lemmas.List.{append-nil}
+use Rattle.std.proofs.lemmas.List.{append-nil, map-id}
+use Rattle.std.proofs.lemmas.List.Concat.{flat_map_single}
 use Rattle.std.proofs.lemmas.Bool.{and_parts, both_ways, true≢false}
 use Rattle.labels.specs.declared.literals.Literal.{Literal}
 use Rattle.labels.specs.declared.literals.Sign.{Sign}
@@ -21,7 +22,6 @@ use Rattle.words.proofs.Searched.{never_true}
 use Rattle.archive.specs.Askings.{seen}
 use Rattle.archive.specs.Plain.{plain_changed}
 use Rattle.archive.specs.Rules.{changed, under, pieces, inside, outside, touching, rewritten, rewritten_rows, added_rows}
-use Rattle.archive.proofs.Bags.{joined_alone}
 use Rattle.archive.proofs.Seen.{seen_append, seen_one, seen_more, seen_joined, seen_under, seen_touching, admits_touches}
 
 -- the opposite of a literal holds where it does not
@@ -105,7 +105,7 @@ module _ (c : ℕ) (table : Table) (small : c < 2 ^ 64) (kept : table.keeps c �
   seen_rewritten_rows test change =
       seen_joined c (rewritten table known path test change) (λ cells. cond (path_holds path c) (changed_cells test change cells) (cells ∷ [])) (seen_rewritten test change) table.rows
       ∙ elim (path_holds path c) as (λ b. flat_map (λ cells. cond b (changed_cells test change cells) (cells ∷ [])) (seen c table.rows) ≡ cond b (plain_changed test change (seen c table.rows)) (seen c table.rows))
-      [ true ↦ refl | false ↦ joined_alone (seen c table.rows) ]
+      [ true ↦ refl | false ↦ flat_map_single (λ cells. cells) (seen c table.rows) ∙ map-id (seen c table.rows) ]
 
   -- a table after an add
   pub seen_added_rows : (cells : Cells) → seen c (added_rows table known path cells) ≡ cond (path_holds path c) (seen c table.rows ++ cells ∷ []) (seen c table.rows)

@@ -11,7 +11,8 @@ use Rattle.stores.specs.Tables.{Facet, Table, touches}
 use Rattle.words.proofs.Searched.{some_choice_by, never_true}
 use Rattle.archive.specs.Askings.{seen}
 use Rattle.archive.specs.Rules.{touching, under, at_kept}
-use Rattle.archive.proofs.Bags.{SameBag, bag_map, bag_kept_by, map_joined, kept_by_kept}
+use Rattle.std.proofs.lemmas.List.Concat.{flat_map_single}
+use Rattle.archive.proofs.Bags.{SameBag, bag_map, bag_kept_by, kept_by_kept}
 
 module _ (c : ℕ) where
   pub seen_append : {X : Type 0} (xs ys : List (Facet X)) → seen c (xs ++ ys) ≡ seen c xs ++ seen c ys
@@ -40,9 +41,9 @@ module _ (c : ℕ) where
   -- each facet becomes one, with a guard that says the same of the choice
   pub seen_map : {X Y : Type 0} (f : Facet X → Facet Y) (g : X → Y) → ((x : Facet X) → (f x).guard c ≡ x.guard c) → ((x : Facet X) → (f x).held ≡ g x.held) → (xs : List (Facet X)) → seen c (map f xs) ≡ map g (seen c xs)
   seen_map f g guards held xs =
-      ap (seen c) (map_joined f xs)
+      ap (seen c) (sym (flat_map_single f xs))
       ∙ seen_joined (λ x. f x ∷ []) (λ x. g x ∷ []) (λ x. seen_one (f x) ∙ ap₂ (λ b y. cond b (y ∷ []) []) (guards x) (held x)) xs
-      ∙ sym (map_joined g (seen c xs))
+      ∙ flat_map_single g (seen c xs)
 
   -- cells under one guard
   pub seen_under : (guard : ℕ → Bool) (rows : List Cells) → seen c (under guard rows) ≡ cond (guard c) rows []

@@ -1,18 +1,19 @@
 -- What holds where nothing is told: known labels, kept choices, and passes below 2^64. Assumes nothing.
-use Rattle.std.proofs.Common.{◌≡◌, ℕ, suc, ◌^◌, ◌<◌, ◌≤◌, Bool, true, false, cond, ltb, List, [], ◌∷◌, ℤ, Some, None, Ok, Err, Option, Result, refl, subst, lt_of_lt_of_le, arith, pow_mono}
-use Rattle.std.proofs.lemmas.Bool.{and_from}
+use Rattle.std.proofs.Common.{◌≡◌, ℕ, ◌+◌, ◌^◌, ◌<◌, ◌≤◌, Bool, true, false, cond, not, ◌&&◌, ltb, List, [], ◌∷◌, length, ℤ, Some, None, Ok, Err, Option, Result, refl, ap, subst, lt_of_lt_of_le, arith, pow_mono}
+use Rattle.std.specs.List.{position_or_len, list_all}
+use Rattle.std.specs.Option.{option_map}
+use Rattle.std.proofs.lemmas.Bool.{and_from, ltb-false}
 use Rattle.faults.specs.declared.Fault.{Fault}
 use Rattle.faults.specs.declared.Refusal.TheVariants.{UnknownLabel, ChoiceNotKept}
 use Rattle.labels.specs.declared.literals.Literal.{Literal}
-use Rattle.faults.specs.Faults.{fault}
+use Rattle.faults.specs.Faults.{fault, first_told, unless}
 use Rattle.labels.specs.Paths.{all_known}
 use Rattle.policies.specs.Passes.{resolved, choice_for}
 use Rattle.policies.specs.Ranges.{viewer_number, day_number, then}
-use Rattle.queries.specs.Tests.{first_told, unless}
 use Rattle.stores.specs.Tables.{Table}
 use Rattle.words.proofs.Digits.{word_of_small}
 use Rattle.archive.specs.Askings.{kept_fault}
-use Rattle.archive.specs.Rules.{path_fault, path_fault_from}
+use Rattle.archive.specs.Rules.{path_fault}
 
 -- neither of two has told something
 pub both_silent : (a b : Option Fault) → first_told a b ≡ None → (a ≡ None) × (b ≡ None)
@@ -24,15 +25,31 @@ passed : (ok : Bool) (later : Option Fault) (told : Fault) → cond ok later (So
 passed true later told none = (refl, none)
 passed false later told none = let z : ◌≡◌ {A = ℕ} 0 1 = cc in absurd (omega arith)
 
+-- where none is the first that does not pass, all pass
+none_fails : {X : Type 0} (ok : X → Bool) (xs : List X) → length xs ≤ position_or_len (λ x. not (ok x)) xs → list_all ok xs ≡ true
+none_fails ok [] past = refl
+none_fails ok (x ∷ xs) past = here (ok x) refl (none_fails ok xs)
+  where
+    rest : ℕ
+    rest = position_or_len (λ y. not (ok y)) xs
+
+    here : (b : Bool) → ok x ≡ b → (length xs ≤ rest → list_all ok xs ≡ true) → (ok x && list_all ok xs) ≡ true
+    here true is later = and_from (ok x) (list_all ok xs) is (later (omega (arith, ap (λ b. cond (not (not b)) (1 + rest) 0) is)))
+    here false is later = absurd (omega (arith, ap (λ b. cond (not (not b)) (1 + rest) 0) is))
+
 -- a path with nothing wrong has known labels
 pub known_path : (known : ℕ) (path : List Literal) → path_fault known path ≡ None → all_known known path ≡ true
-known_path known path none = from 0 path none
+known_path known path none = none_fails ok path (past (ltb n (length path)) refl none)
   where
-    from : (number : ℕ) (ls : List Literal) → path_fault_from known number ls ≡ None → all_known known ls ≡ true
-    from number [] none' = refl
-    from number (l ∷ ls) none' =
-        let parts = passed (ltb l.label known) (path_fault_from known (suc number) ls) (fault UnknownLabel number) none' in
-        and_from (ltb l.label known) (all_known known ls) parts.0 (from (suc number) ls parts.1)
+    ok : Literal → Bool
+    ok l = ltb l.label known
+
+    n : ℕ
+    n = position_or_len (λ l. not (ok l)) path
+
+    past : (b : Bool) → ltb n (length path) ≡ b → option_map (fault UnknownLabel) (cond b (Some n) None) ≡ None → length path ≤ n
+    past true is told = let z : ◌≡◌ {A = ℕ} 0 1 = cc in absurd (omega arith)
+    past false is told = ltb-false n (length path) is
 
 -- where no table refuses the choice, the two that are asked keep it
 pub both_keep : (files readings answer : Table) (c : ℕ) → kept_fault files readings answer c ≡ None → (files.keeps c ≡ true) × (readings.keeps c ≡ true)

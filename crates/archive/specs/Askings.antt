@@ -8,8 +8,10 @@ use Rattle.queries.specs.declared.arms.Source.TheVariants.{Files, Readings, Join
 use Rattle.rows.specs.declared.cells.Cells.{Cells}
 use Rattle.labels.specs.Guards.{meet}
 use Rattle.queries.specs.Arms.{Asked, shown_cells, query_fault}
-use Rattle.queries.specs.Tests.{passes, unless, first_told}
-use Rattle.rows.specs.Cells.{same_number, cell}
+use Rattle.faults.specs.Faults.{unless, first_told}
+use Rattle.queries.specs.Tests.{passes}
+use Rattle.rows.specs.Cells.{cell}
+use Rattle.std.specs.Ordering.{int_eq}
 use Rattle.stores.specs.Tables.{Facet, Table}
 use Rattle.archive.specs.Rules.{touching}
 
@@ -24,7 +26,7 @@ spread row = record { guard = row.guard; held = row.held.values }
 -- a file row with a reading row, where the two columns are equal: the guards are met, and the file's numbers come first
 abbrev pub pair : ℕ → ℕ → Facet Cells → Facet Cells → List (Facet (List ℤ))
 pair f r file reading =
-    cond (same_number (cell f file.held) (cell r reading.held)) (record { guard = meet file.guard reading.guard; held = file.held.values ++ reading.held.values } ∷ []) []
+    cond (int_eq (cell f file.held) (cell r reading.held)) (record { guard = meet file.guard reading.guard; held = file.held.values ++ reading.held.values } ∷ []) []
 
 -- the rows of a source
 abbrev pub source_rows : List (Facet Cells) → List (Facet Cells) → Source → List (Facet (List ℤ))

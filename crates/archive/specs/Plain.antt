@@ -10,7 +10,8 @@ use Rattle.archive.specs.declared.changes.TableName.{TableName}
 use Rattle.archive.specs.declared.changes.TableName.TheVariants as named
 use Rattle.queries.specs.Arms.{Asked, shown_cells}
 use Rattle.queries.specs.Tests.{passes}
-use Rattle.rows.specs.Cells.{same_number, cell}
+use Rattle.rows.specs.Cells.{cell}
+use Rattle.std.specs.Ordering.{int_eq}
 use Rattle.archive.specs.Rules.{changed}
 
 -- a plain archive
@@ -55,7 +56,7 @@ after_calls plain (call ∷ calls) = after_calls (carried_out call plain) calls
 
 -- a file with a reading, where the two columns are equal
 abbrev pub plain_pair : ℕ → ℕ → Cells → Cells → List (List ℤ)
-plain_pair f r file reading = cond (same_number (cell f file) (cell r reading)) ((file.values ++ reading.values) ∷ []) []
+plain_pair f r file reading = cond (int_eq (cell f file) (cell r reading)) ((file.values ++ reading.values) ∷ []) []
 
 -- the rows of a source, by their numbers
 abbrev pub plain_source : Plain → Source → List (List ℤ)
@@ -83,7 +84,7 @@ abbrev pub same_numbers : List ℤ → List ℤ → Bool
 same_numbers [] [] = true
 same_numbers [] (b ∷ bs) = false
 same_numbers (a ∷ more) [] = false
-same_numbers (a ∷ more) (b ∷ bs) = same_number a b && same_numbers more bs
+same_numbers (a ∷ more) (b ∷ bs) = int_eq a b && same_numbers more bs
 
 -- how often a row stands among others
 abbrev pub times : Cells → List Cells → ℕ

@@ -1,5 +1,5 @@
 -- The rules of add, set and cut: which rows they leave in a table, and when they are refused. Assumes nothing.
-use Rattle.std.specs.Prelude.{ℕ, suc, Bool, true, cond, ◌&&◌, List, [], ◌∷◌, ◌++◌, map, length, Some, None, filter, Option, nat_le, nat_lt}
+use Rattle.std.specs.Prelude.{ℕ, Bool, true, cond, ◌&&◌, List, [], ◌∷◌, ◌++◌, map, length, filter, Option, nat_le, nat_lt}
 use Rattle.std.specs.List.Sorted.{IsPermutation}
 use Rattle.std.specs.List.{flat_map}
 use Rattle.faults.specs.declared.Fault.{Fault}
@@ -9,11 +9,11 @@ use Rattle.queries.specs.declared.nodes.Node.{Node}
 use Rattle.rows.specs.declared.cells.Cells.{Cells}
 use Rattle.archive.specs.declared.changes.Change.{Change}
 use Rattle.archive.specs.declared.changes.Change.TheVariants.{Set, Cut}
-use Rattle.faults.specs.Faults.{fault}
 use Rattle.labels.specs.Guards.{literal_guard, meet}
 use Rattle.labels.specs.Literals.{opposite}
 use Rattle.labels.specs.Paths.{path_guard}
-use Rattle.queries.specs.Tests.{passes, columns_within, unless, first_told, test_fault}
+use Rattle.faults.specs.Faults.{unless, first_not, first_told}
+use Rattle.queries.specs.Tests.{passes, columns_within, test_fault}
 use Rattle.rows.specs.Cells.{width, with_cell}
 use Rattle.stores.specs.Changes.{SameMaking}
 use Rattle.stores.specs.Tables.{Facet, Table, touches}
@@ -61,14 +61,9 @@ rewritten_rows table known path test change = flat_map (rewritten table known pa
 abbrev pub added_rows : Table → ℕ → List Literal → Cells → List (Facet Cells)
 added_rows table known path cells = table.rows ++ touching table (under (path_guard known path) (cells ∷ []))
 
--- the first literal of the path, counted from this number, whose label is not known
-abbrev pub path_fault_from : ℕ → ℕ → List Literal → Option Fault
-path_fault_from known number [] = None
-path_fault_from known number (literal ∷ path) = cond (nat_lt literal.label known) (path_fault_from known (suc number) path) (Some (fault UnknownLabel number))
-
--- what is wrong with a path
+-- the first literal of the path whose label is not known
 abbrev pub path_fault : ℕ → List Literal → Option Fault
-path_fault known path = path_fault_from known 0 path
+path_fault known path = first_not (λ literal. nat_lt literal.label known) UnknownLabel path
 
 -- the rows do not fit the table
 abbrev pub room_fault : Table → ℕ → List (Facet Cells) → Option Fault

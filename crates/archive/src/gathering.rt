@@ -1,8 +1,8 @@
 // Before a set or a cut lets the table grow, the rows of which nothing is left go.
-ghost use Rattle.std.specs.Prelude.{◌≡◌, ◌-◌, ◌<◌, ◌≤◌, set, filter, slice_set};
-ghost use Rattle.stores.specs.Tables.{facet, count, row_at, AllTouch};
+ghost use Rattle.std.specs.Prelude.{◌≡◌, ◌-◌, ◌<◌, ◌≤◌, slice_set};
+ghost use Rattle.stores.specs.Tables.{facet, count, row_at};
 ghost use Rattle.archive.specs.Rules.{at_kept};
-ghost use Rattle.archive.specs.Turns.{path_of, test_of, is_left, view, Gathered, Shortened, Shows};
+ghost use Rattle.archive.specs.Turns.{given, is_left, rows_left, shown, Gathered, Shortened, Shows};
 
 use crate::rewriting::Rewrite;
 use labels::Guard;
@@ -11,7 +11,7 @@ use stores::Store;
 
 // Moves the row at a place down to the next free one, if it does not stand there.
 fn move_down<G: Guard, S: Store<G>>(store: &mut S, place: u32, free: u32, row: &Row<G>)
-    ensures { AllTouch (S.Store.table store.old) → free ≤ place → place < count (S.Store.table store.old) → facet G.Guard.admitted row.now ≡ row_at (S.Store.table store.old) place → Shows (S.Store.table store.old) (S.Store.table store.new) (slice_set (view (S.Store.table store.old).keeps (S.Store.table store.old)) free (at_kept (S.Store.table store.old).keeps (facet G.Guard.admitted row.now))) }
+    ensures { free ≤ place → place < count (S.table store.old) → facet G.admitted row.now ≡ row_at (S.table store.old) place → Shows (S.table store.old) (S.table store.new) (slice_set (shown (S.table store.old)) free (at_kept (S.table store.old).keeps (facet G.admitted row.now))) }
 {
     if free < place {
         let _ = store.put(free, row);
@@ -19,8 +19,9 @@ fn move_down<G: Guard, S: Store<G>>(store: &mut S, place: u32, free: u32, row: &
 }
 
 // Takes the last row out, if there is one.
+#[tactic(auto, using(crate::proofs::Front::shortened_last))]
 fn remove_last<G: Guard, S: Store<G>>(store: &mut S)
-    ensures { Shortened (S.Store.table store.old) (S.Store.table store.new) (count (S.Store.table store.old) - 1) }
+    ensures { Shortened (S.table store.old) (S.table store.new) (count (S.table store.old) - 1) }
 {
     let count = store.count();
     if count > 0 {
@@ -30,7 +31,7 @@ fn remove_last<G: Guard, S: Store<G>>(store: &mut S)
 
 // Takes rows out from the end until this many are left.
 fn shorten<G: Guard, S: Store<G>>(store: &mut S, left: u32)
-    ensures { left ≤ count (S.Store.table store.old) → Shortened (S.Store.table store.old) (S.Store.table store.new) left }
+    ensures { left ≤ count (S.table store.old) → Shortened (S.table store.old) (S.table store.new) left }
 {
     for _row in left..store.count() {
         remove_last(store);
@@ -40,8 +41,9 @@ fn shorten<G: Guard, S: Store<G>>(store: &mut S, left: u32)
 impl Rewrite<'_> {
     // Moves the rows of which something is left to the front, and tells how many they are.
     fn move_up<G: Guard, S: Store<G>>(&self, store: &mut S) -> u32
-        ensures { AllTouch (S.Store.table store.old) → Gathered (is_left (S.Store.table store.old) G.Guard.known (path_of self.now) (test_of self.now) self.now.change) (S.Store.table store.old) (S.Store.table store.new) result }
+        ensures { Gathered (is_left (S.table store.old) (given G.known self.now)) (S.table store.old) (S.table store.new) result }
     {
+        // A loop that counts, since each turn changes the store.
         let mut free = 0;
         for place in 0..store.count() {
             let row = store.row(place);
@@ -55,7 +57,7 @@ impl Rewrite<'_> {
 
     // Leaves only the rows of which something is left.
     pub(crate) fn gather<G: Guard, S: Store<G>>(&self, store: &mut S)
-        ensures { AllTouch (S.Store.table store.old) → Shows (S.Store.table store.old) (S.Store.table store.new) (filter (is_left (S.Store.table store.old) G.Guard.known (path_of self.now) (test_of self.now) self.now.change) (view (S.Store.table store.old).keeps (S.Store.table store.old))) }
+        ensures { Shows (S.table store.old) (S.table store.new) (rows_left (S.table store.old) (given G.known self.now)) }
     {
         let left = self.move_up(store);
         shorten(store, left);

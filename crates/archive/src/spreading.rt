@@ -1,33 +1,37 @@
 // Each row that a set or a cut changes gives way to its parts.
-ghost use Rattle.std.specs.Prelude.{◌≡◌, ◌<◌, ◌≤◌, Bool, true, List, [], map, length};
-ghost use Rattle.std.specs.List.{flat_map};
+ghost use Rattle.std.specs.Prelude.{◌≡◌, ℕ, ◌<◌, true, List, map};
 ghost use Rattle.rows.specs.declared.cells.Cells.{Cells};
-ghost use Rattle.stores.specs.Tables.{Facet, Table, facet, count, row_at, touches, AllTouch};
-ghost use Rattle.words.specs.Lists.{all};
-ghost use Rattle.archive.specs.Rules.{at_kept, changed, under, inside, outside, concerned};
-ghost use Rattle.archive.specs.Turns.{path_of, test_of, parts, is_left, view, placed, with_part, inside_then, spread_out, Shows, Placing, Room};
+ghost use Rattle.stores.specs.Tables.{Facet, Table, facet, count, row_at, touches};
+ghost use Rattle.archive.specs.Rules.{at_kept, inside, outside};
+ghost use Rattle.archive.specs.Turns.{path_of, given, parts, shown, placed, with_part, inside_then, rows_spread, Shows, Placing, Room, Spreadable, Takes};
 
 use crate::changes::Change;
-use crate::rewriting::{Rewrite, narrowed, turned_away};
+use crate::rewriting::{Rewrite, turned_away};
 use labels::Guard;
 use rows::Row;
 use stores::Store;
 
-// Stores one part of the row at a place: there, or behind all rows where the place is taken.
-fn place_part<G: Guard, S: Store<G>>(store: &mut S, place: u32, taken: bool, part: &Row<G>)
-    ensures { AllTouch (S.Store.table store.old) → touches (S.Store.table store.old) (G.Guard.admitted part.now.guard) ≡ true → place < count (S.Store.table store.old) → (taken ≡ true → count (S.Store.table store.old) < (S.Store.table store.old).capacity) → Shows (S.Store.table store.old) (S.Store.table store.new) (with_part taken (view (S.Store.table store.old).keeps (S.Store.table store.old)) place (at_kept (S.Store.table store.old).keeps (facet G.Guard.admitted part.now))) }
+// Stores one part of a row: at the free place, or behind all rows where none is free.
+#[tactic(auto, using(crate::proofs::Placed::part_there, crate::proofs::Placed::part_behind))]
+fn place_part<G: Guard, S: Store<G>>(store: &mut S, free: Option<u32>, part: &Row<G>)
+    ensures { touches (S.table store.old) (G.admitted part.now.guard) ≡ true → Takes (S.table store.old) free → Shows (S.table store.old) (S.table store.new) (with_part (shown (S.table store.old)) free (at_kept (S.table store.old).keeps (facet G.admitted part.now))) }
 {
-    if taken {
-        let _ = store.add(part);
-    } else {
-        let _ = store.put(place, part);
-    }
+    let _ = match free {
+        Some(place) => store.put(place, part),
+        None => store.add(part),
+    };
 }
 
 impl Rewrite<'_> {
-    // Stores the part inside the path in the place of the row, if there is one, and tells so.
-    fn place_inside<G: Guard, S: Store<G>>(&self, store: &mut S, place: u32, row: &Row<G>) -> bool
-        ensures { AllTouch (S.Store.table store.old) → place < count (S.Store.table store.old) → touches (S.Store.table store.old) (inside G.Guard.known (path_of self.now) (facet G.Guard.admitted row.now)).guard ≡ true → (still : List (Facet Cells)) → Placing (S.Store.table store.old) (S.Store.table store.new) (view (S.Store.table store.old).keeps (S.Store.table store.old)) place result still (inside_then (S.Store.table store.old) G.Guard.known (path_of self.now) self.now.change (facet G.Guard.admitted row.now) still) }
+    // Stores the part inside the path in the place of the row, if there is one; else the place is
+    // still free.
+    fn place_inside<G: Guard, S: Store<G>>(
+        &self,
+        store: &mut S,
+        place: u32,
+        row: &Row<G>,
+    ) -> Option<u32>
+        ensures { place < count (S.table store.old) → touches (S.table store.old) (inside G.known (path_of self.now) (facet G.admitted row.now)).guard ≡ true → (still : List (Facet Cells)) → Placing (S.table store.old) (S.table store.new) place result still (inside_then (S.table store.old) (given G.known self.now) (facet G.admitted row.now) still) }
     {
         match self.change {
             Change::Set(column, number) => {
@@ -35,24 +39,22 @@ impl Rewrite<'_> {
                     guard: self.guard_inside(row),
                     cells: row.cells.with(column, number),
                 };
-                place_part(store, place, false, &part);
-                true
+                place_part(store, Some(place), &part);
+                None
             }
-            Change::Cut => false,
+            Change::Cut => Some(place),
         }
     }
 
-    // Stores the parts outside the path: the first in the place of the row, if that is not taken.
+    // Stores the parts outside the path: the first at the free place, if there is one.
     fn place_outside<G: Guard, S: Store<G>>(
         &self,
         store: &mut S,
-        place: u32,
         row: &Row<G>,
-        taken: bool,
+        mut free: Option<u32>,
     )
-        ensures { (start : Table) (rows whole : List (Facet Cells)) → Room start rows place whole → Placing start (S.Store.table store.old) rows place taken (map (at_kept start.keeps) (outside start G.Guard.known (path_of self.now) (facet G.Guard.admitted row.now))) whole → Shows start (S.Store.table store.new) (placed rows place whole) }
+        ensures { (start : Table) (place : ℕ) (whole : List (Facet Cells)) → Room start place whole → Placing start (S.table store.old) place free (map (at_kept start.keeps) (outside start G.known (path_of self.now) (facet G.admitted row.now))) whole → Shows start (S.table store.new) (placed (shown start) place whole) }
     {
-        let mut taken = taken;
         let mut guard = row.guard;
         let literals = self.path.as_slice();
         for literal in literals {
@@ -61,26 +63,25 @@ impl Rewrite<'_> {
                 cells: row.cells,
             };
             if store.touches(part.guard) {
-                place_part(store, place, taken, &part);
-                taken = true;
+                place_part(store, free.take(), &part);
             }
-            guard = narrowed(guard, *literal);
+            guard = guard.narrowed(*literal);
         }
     }
 
     // Puts the parts of the row at a place where the row was.
     fn spread_row<G: Guard, S: Store<G>>(&self, store: &mut S, place: u32, row: &Row<G>)
-        ensures { AllTouch (S.Store.table store.old) → facet G.Guard.admitted row.now ≡ row_at (S.Store.table store.old) place → Room (S.Store.table store.old) (view (S.Store.table store.old).keeps (S.Store.table store.old)) place (parts (S.Store.table store.old) G.Guard.known (path_of self.now) (test_of self.now) self.now.change (facet G.Guard.admitted row.now)) → Shows (S.Store.table store.old) (S.Store.table store.new) (placed (view (S.Store.table store.old).keeps (S.Store.table store.old)) place (parts (S.Store.table store.old) G.Guard.known (path_of self.now) (test_of self.now) self.now.change (facet G.Guard.admitted row.now))) }
+        ensures { facet G.admitted row.now ≡ row_at (S.table store.old) place → Room (S.table store.old) place (parts (S.table store.old) (given G.known self.now) (facet G.admitted row.now)) → Shows (S.table store.old) (S.table store.new) (placed (shown (S.table store.old)) place (parts (S.table store.old) (given G.known self.now) (facet G.admitted row.now))) }
     {
         if self.concerns(store, row) {
-            let taken = self.place_inside(store, place, row);
-            self.place_outside(store, place, row, taken);
+            let free = self.place_inside(store, place, row);
+            self.place_outside(store, row, free);
         }
     }
 
     // Puts the parts of each row where the row was, and those that are more than one behind all rows.
     pub(crate) fn spread<G: Guard, S: Store<G>>(&self, store: &mut S)
-        ensures { AllTouch (S.Store.table store.old) → all (is_left (S.Store.table store.old) G.Guard.known (path_of self.now) (test_of self.now) self.now.change) (view (S.Store.table store.old).keeps (S.Store.table store.old)) ≡ true → length (flat_map (parts (S.Store.table store.old) G.Guard.known (path_of self.now) (test_of self.now) self.now.change) (view (S.Store.table store.old).keeps (S.Store.table store.old))) ≤ (S.Store.table store.old).capacity → Shows (S.Store.table store.old) (S.Store.table store.new) (spread_out (parts (S.Store.table store.old) G.Guard.known (path_of self.now) (test_of self.now) self.now.change) (view (S.Store.table store.old).keeps (S.Store.table store.old))) }
+        ensures { Spreadable (S.table store.old) (given G.known self.now) → Shows (S.table store.old) (S.table store.new) (rows_spread (S.table store.old) (given G.known self.now)) }
     {
         for place in 0..store.count() {
             let row = store.row(place);

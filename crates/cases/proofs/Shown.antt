@@ -1,7 +1,7 @@
 -- The worked cases hold. Assumes nothing.
 use Rattle.std.proofs.Common.{not, refl, ap}
 use Rattle.words.specs.Bits.{has, word_of}
-use Rattle.guards.specs.Conjunctions.{conjunction_admits, full}
+use Rattle.guards.specs.Conjunctions.{conjunction_admits, empty_words}
 use Rattle.guards.specs.Conjoined.{full_empty}
 use Rattle.words.proofs.Digits.{same_word, has_word_of}
 use Rattle.words.proofs.Searched.{no_choice, every_label_each, some_choice_one}
@@ -14,6 +14,6 @@ pub worked : WorkedCases
 unfolding has word_of
 worked = record {
   contradiction = refl;
-  nothing_admitted = ap not (no_choice (conjunction_admits full full) full_empty);
+  nothing_admitted = ap not (no_choice (conjunction_admits empty_words) full_empty);
   fifth_label = refl;
 }

@@ -7,7 +7,7 @@ use Rattle.labels.specs.Literals.{plus, minus}
 use Rattle.guards.specs.Tables.{table_word}
 use Rattle.policies.specs.declared.partners.Pair.{Pair}
 use Rattle.policies.specs.declared.releases.LabelRecord.{LabelRecord}
-use Rattle.policies.specs.Partners.{listed, with_pair}
+use Rattle.policies.specs.Partners.{pair, same_pair, listed, with_pair}
 use Rattle.policies.specs.Releases.{release_day, with_day}
 
 -- the definitions that search or count do what their names say
@@ -28,13 +28,13 @@ pub record Changes : Type 0 where
   -- a day that is accepted is that label's release day from then on, and the other labels keep theirs
   pub day_set : (records after : List LabelRecord) (l d k : ℕ) → length records ≡ 64 → with_day records (pos l) (pos d) ≡ Ok after → release_day after k ≡ cond (l == k) d (release_day records k)
   -- a pair that is accepted is listed from then on, beside those that were
-  pub pair_listed : (before after : List Pair) (v l w m : ℕ) → with_pair before (pos v) (pos l) ≡ Ok after → listed after w m ≡ (listed before w m || v == w && l == m)
+  pub pair_listed : (before after : List Pair) (v l : ℕ) (other : Pair) → with_pair before (pos v) (pos l) ≡ Ok after → listed after other ≡ (listed before other || same_pair (pair v l) other)
 
 -- small cases that can be followed by hand
 pub record WorkedCases : Type 0 where
   -- in the conjunction kind, +3 met with -3 is the one empty guard
   pub contradiction : meet_words (literal_words (plus 3)) (literal_words (minus 3)) ≡ empty_words
   -- which admits no choice
-  pub nothing_admitted : empty (conjunction_admits empty_words.required empty_words.excluded) ≡ true
+  pub nothing_admitted : empty (conjunction_admits empty_words) ≡ true
   -- in the table kind, +5 is the upper half of the word
   pub fifth_label : table_word (literal_guard 6 (plus 5)) ≡ 0xFFFFFFFF00000000

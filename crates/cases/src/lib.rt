@@ -3,7 +3,7 @@
 #![tactic(auto)]
 
 ghost use Rattle.std.specs.Prelude.{◌≡◌, true};
-ghost use Rattle.guards.specs.Conjunctions.{words, literal_words, meet_words};
+ghost use Rattle.guards.specs.Conjunctions.{literal_words, meet_words};
 ghost use Rattle.labels.specs.Literals.{opposite};
 ghost use Rattle.cases.specs.Worked.{Meanings, Changes, WorkedCases};
 
@@ -21,7 +21,7 @@ pub struct Answers {
 
 // The literal's guard met with that of its opposite, in the conjunction kind.
 fn met_with_opposite(literal: Literal) -> Conjunction
-    ensures { words result.required result.excluded ≡ meet_words (literal_words literal) (literal_words (opposite literal)) }
+    ensures { result ≡ meet_words (literal_words literal) (literal_words (opposite literal)) }
 {
     let holds: Conjunction = Guard::of_literal(literal);
     holds.meet(Guard::of_literal(literal.opposite()))
@@ -29,6 +29,7 @@ fn met_with_opposite(literal: Literal) -> Conjunction
 
 // Runs the worked cases. The definitions mean what they should, the cases hold of them, and the code
 // answers accordingly.
+#[tactic(auto, using(crate::proofs::Changed::changes, crate::proofs::Shown::meanings, crate::proofs::Shown::worked))]
 pub fn worked_cases() -> Answers
     ensures meant { Meanings }
     ensures changed { Changes }

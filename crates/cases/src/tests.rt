@@ -16,16 +16,15 @@ fn plus(label: u32) -> Literal {
 // have; a literal of the first unknown label admits none.
 fn answers_right<G: Guard>() -> bool {
     let guard = G::of_literal(plus(0)).meet(G::of_literal(plus(5).opposite()));
-    let mut right = G::of_literal(plus(G::label_count())).is_empty();
-    for (bits, expected) in [
-        (0b00_0001, true),
-        (0b01_1111, true),
-        (0b00_0000, false),
-        (0b10_0001, false),
-    ] {
-        right = right && guard.admits(Choice { bits }) == expected;
-    }
-    right
+    G::of_literal(plus(G::label_count())).is_empty()
+        && [
+            (0b00_0001, true),
+            (0b01_1111, true),
+            (0b00_0000, false),
+            (0b10_0001, false),
+        ]
+        .iter()
+        .all(|&(bits, expected)| guard.admits(Choice { bits }) == expected)
 }
 
 #[test]

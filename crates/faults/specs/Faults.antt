@@ -1,5 +1,7 @@
 -- What each refusal is: the number that users see, and the layer that tells it. Assumes nothing.
-use Rattle.std.specs.Prelude.{ℕ, List, ◌++◌, codes, decimal}
+use Rattle.std.specs.Prelude.{ℕ, Bool, cond, not, List, ◌++◌, codes, Some, None, Ok, Err, Option, Result, decimal}
+use Rattle.std.specs.List.{position}
+use Rattle.std.specs.Option.{option_map}
 use Rattle.faults.specs.declared.Fault.{Fault}
 use Rattle.faults.specs.declared.Layer.{Layer}
 use Rattle.faults.specs.declared.Layer.TheVariants.{Text, Statement, Store}
@@ -64,3 +66,21 @@ fault refusal place = record { refusal = refusal; line = 0; place = place }
 -- a fault in words, without its line
 abbrev pub fault_text : Fault → List ℕ
 fault_text f = codes "refusal " ++ (decimal (code f.refusal).number ++ (codes " at place " ++ decimal f.place))
+
+-- nothing is told where the test passes, else the refusal at the place
+abbrev pub unless : Bool → Refusal → ℕ → Option Fault
+unless ok refusal place = cond ok None (Some (fault refusal place))
+
+-- the refusal at the place of the first element that does not pass
+abbrev pub first_not : {X : Type 0} → (X → Bool) → Refusal → List X → Option Fault
+first_not ok refusal xs = option_map (fault refusal) (position (λ x. not (ok x)) xs)
+
+-- the first that is told
+abbrev pub first_told : Option Fault → Option Fault → Option Fault
+first_told (Some told) later = Some told
+first_told None later = later
+
+-- a call answers what is told
+abbrev pub answered : Option Fault → Result (Unit {0}) Fault
+answered None = Ok tt
+answered (Some told) = Err told

@@ -1,11 +1,8 @@
 // What a call answers when it turns its caller back: which refusal, on which line, at which place.
 #![tactic(auto)]
 
-ghost use Rattle.std.specs.Prelude.{◌≡◌, Some, Decides, ◌==◌};
-ghost use Rattle.faults.specs.Faults.{code, fault, fault_text};
-ghost use Rattle.std.specs.Cmp.Rules.{comparing};
-ghost use Rattle.std.proofs.Common.{rules};
-ghost use Rattle.std.specs.Ordering.{on};
+ghost use Rattle.std.specs.Prelude.{◌≡◌, Some};
+ghost use Rattle.faults.specs.Faults.{code, fault, fault_text, unless, answered};
 
 use std::error::Error;
 use std::fmt;
@@ -19,7 +16,7 @@ pub enum Layer {
 }
 
 // Why a call was turned back. The discriminants are the numbers that users see.
-#[derive(Clone, Copy, Eq, Debug)]
+#[derive(Clone, Copy, PartialEq, Eq, Debug)]
 pub enum Refusal {
     WordNotAllowed = 11,
     NotANumber = 12,
@@ -43,9 +40,11 @@ pub enum Refusal {
 }
 
 impl Refusal {
-    // The number that users see.
+    // The number that users see. No other refusal has it.
+    #[tactic(auto, using(crate::proofs::Told::same_refusal))]
     pub fn number(self) -> u32
-        ensures { result ≡ (code self).number }
+        ensures value { result ≡ (code self).number }
+        ensures only { (other : Refusal) → (code other).number ≡ result → other ≡ self }
     {
         self as u32
     }
@@ -78,30 +77,9 @@ impl Refusal {
     }
 }
 
-// Whether the two have one number.
-fn same_number(a: Refusal, b: Refusal) -> bool
-    ensures { result ≡ ((code a).number == (code b).number) }
-{
-    a.number() == b.number()
-}
-
-// No two refusals have one number, so the numbers decide.
-impl PartialEq for Refusal {
-    ghost eq = { on (λ r. (code r).number) ◌==◌ };
-
-    ghost laws = { Prim.search (comparing, rules) };
-
-    fn eq(&self, other: &Refusal) -> bool
-        ensures value { result ≡ ((code self.now).number == (code other.now).number) }
-        ensures equal { Decides result (self.now ≡ other.now) }
-    {
-        same_number(*self, *other)
-    }
-}
-
 // A refusal with where it was met: the script's line, from 1 (0 outside a script), and the place
 // that the refusal speaks of.
-#[derive(Clone, Copy, PartialEq, Eq, Debug)]
+#[derive(Clone, Copy, Debug, PartialEq, Eq)]
 pub struct Fault {
     pub refusal: Refusal,
     pub line: u32,
@@ -132,3 +110,14 @@ impl fmt::Display for Fault {
 }
 
 impl Error for Fault {}
+
+// Tells the refusal, at the place, unless all is well.
+pub fn refuse_unless(ok: bool, refusal: Refusal, place: u32) -> Result<(), Fault>
+    ensures { result ≡ answered (unless ok refusal place) }
+{
+    if ok {
+        Ok(())
+    } else {
+        Err(Fault::new(refusal, place))
+    }
+}

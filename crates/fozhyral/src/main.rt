@@ -55,9 +55,7 @@ const VISITS: [Visit; 7] = [
 fn decide_all<G: Guard, P: Policy>(rt: &HostRuntime, policy: &P, kind: &str) -> anyhow::Result<()> {
     let labels = G::label_count();
     println!(rt; "guards of the {kind} kind, which knows {labels} labels:")?;
-    for visit in VISITS {
-        let viewer = visit.viewer;
-        let day = visit.day;
+    for Visit { viewer, day } in VISITS {
         match show_confidential::<G, P>(policy, LABEL, VALUE, viewer, day) {
             Ok(shown) => println!(rt; "  viewer {viewer} on day {day} is shown {shown}")?,
             Err(fault) => println!(rt; "  viewer {viewer} on day {day} is turned back: {fault}")?,

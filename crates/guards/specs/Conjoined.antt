@@ -1,218 +1,135 @@
 -- Lemmas on the conjunction kind: what its words admit. Assumes nothing.
-use Rattle.std.specs.Prelude.{◌≡◌, ℕ, ◌^◌, ◌<◌, ◌≤◌, Bool, true, false, cond, not, ◌&&◌, ◌||◌, ◌==◌, ◌≢◌, bit_and, bit_or, nat_lt, refl}
-use Rattle.std.proofs.Common.{sym, ap, ap₂, ◌∙◌, ⊎_elim, lt_of_le_of_lt, arith, pow_pos}
+use Rattle.std.specs.Prelude.{◌≡◌, ℕ, ◌^◌, ◌<◌, ◌≤◌, Bool, true, false, not, ◌&&◌, ◌==◌, bit_and, bit_or, refl}
+use Rattle.std.proofs.Common.{sym, ap, ◌∙◌, ⊎_elim, lt_of_le_of_lt, arith, pow_pos}
 use Rattle.std.proofs.Math.Path.{fun_ext}
 use Rattle.std.proofs.lemmas.Nat.{and_le_r}
+use lib.Bits.{or_lt}
 use Rattle.std.specs.Int.Bits.{and_lt}
-use Rattle.std.proofs.lemmas.Bool.{eqb-true, eqb-false, eq-eqb, and_parts, and_from, cases_lt, lt-ltb, le-ltb, cond-true, cond-false, false≢true}
+use Rattle.std.proofs.lemmas.Bool.{eqb-true, eqb-false, eq-eqb, and_parts, and_from, cases_lt, cond_both}
+use Rattle.std.proofs.lemmas.Bool.Decides.{nat_tests}
 use Rattle.words.specs.Bits.{has, some_choice}
-use Rattle.guards.specs.Conjunctions.{Words, words, implies, as_asked, conjunction_admits, full, empty_words, canonical, is_canonical, literal_words, one_label}
+use Rattle.guards.specs.Conjunctions.{Words, words, implies, as_asked, conjunction_admits, empty_words, is_consistent, canonical, is_canonical, literal_words, one_label, meet_words, AreWide}
 use Rattle.labels.specs.Guards.{everything, literal_guard, meet, empty, IgnoresFrom}
-use Rattle.labels.specs.Literals.{signed, holds}
+use Rattle.labels.specs.Literals.{signed}
 use Rattle.labels.specs.declared.literals.Literal.{Literal}
 use Rattle.labels.specs.declared.literals.Sign.{Sign}
 use Rattle.labels.specs.declared.literals.Sign.TheVariants.{Plus, Minus}
 use Rattle.words.proofs.Searched.{same_truth, never_true, every_label_each, every_label_same, some_choice_by, no_choice}
 use Rattle.words.proofs.Digits.{has_and, has_or, has_zero, has_pow, same_word}
 
--- what two words admit, as one test on choices
-abbrev pub admits : Words → ℕ → Bool
-admits w = conjunction_admits w.required w.excluded
-
-implied_in : (r c : Bool) → (c && r) ≡ r → implies r c ≡ true
-implied_in true true e = refl
-implied_in true false e = e
-implied_in false c e = refl
-
-in_implied : (r c : Bool) → implies r c ≡ true → (c && r) ≡ r
-in_implied true true e = refl
-in_implied true false e = e
-in_implied false true e = refl
-in_implied false false e = refl
-
-implied_out : (x c : Bool) → (c && x) ≡ false → implies x (not c) ≡ true
-implied_out true true e = sym e
-implied_out true false e = refl
-implied_out false c e = refl
-
-out_implied : (x c : Bool) → implies x (not c) ≡ true → (c && x) ≡ false
-out_implied true true e = sym e
-out_implied true false e = refl
-out_implied false true e = refl
-out_implied false false e = refl
-
 -- each label of an admitted choice is as asked
-module _ (r x c : ℕ) (t : conjunction_admits r x c ≡ true) (l : ℕ) (h : l < 64) where
-  each : as_asked r x c l ≡ true
-  each = (every_label_each (as_asked r x c)).0 t l h
-
-  pub each_in : implies (has r l) (has c l) ≡ true
-  each_in = (and_parts (implies (has r l) (has c l)) (implies (has x l) (not (has c l))) each).0
-
-  pub each_out : implies (has x l) (not (has c l)) ≡ true
-  each_out = (and_parts (implies (has r l) (has c l)) (implies (has x l) (not (has c l))) each).1
+each : (w : Words) (c : ℕ) → conjunction_admits w c ≡ true → (l : ℕ) → l < 64 → as_asked w c l ≡ true
+unfolding conjunction_admits
+each w c = (every_label_each (as_asked w c)).0
 
 -- and a choice whose labels are all as asked is admitted
-admitted_by : (r x c : ℕ) → ((l : ℕ) → l < 64 → implies (has r l) (has c l) ≡ true) → ((l : ℕ) → l < 64 → implies (has x l) (not (has c l)) ≡ true) → conjunction_admits r x c ≡ true
-admitted_by r x c ins outs = (every_label_each (as_asked r x c)).1 (λ l h. and_from (implies (has r l) (has c l)) (implies (has x l) (not (has c l))) (ins l h) (outs l h))
+by_each : (w : Words) (c : ℕ) → ((l : ℕ) → l < 64 → as_asked w c l ≡ true) → conjunction_admits w c ≡ true
+unfolding conjunction_admits
+by_each w c = (every_label_each (as_asked w c)).1
 
 -- the test by words
-pub by_words : (r x c : ℕ) → r < 2 ^ 64 → x < 2 ^ 64 → (bit_and c r == r && bit_and c x == 0) ≡ conjunction_admits r x c
-by_words r x c hr hx = same_truth (bit_and c r == r && bit_and c x == 0) (conjunction_admits r x c) to from
+pub by_words : (w : Words) (c : ℕ) → AreWide w → conjunction_admits w c ≡ (bit_and c w.required == w.required && bit_and c w.excluded == 0)
+by_words w c wide = same_truth (conjunction_admits w c) (bit_and c w.required == w.required && bit_and c w.excluded == 0) from to
   where
-    to : (bit_and c r == r && bit_and c x == 0) ≡ true → conjunction_admits r x c ≡ true
+    to : (bit_and c w.required == w.required && bit_and c w.excluded == 0) ≡ true → conjunction_admits w c ≡ true
     to t =
-        let tests = and_parts (bit_and c r == r) (bit_and c x == 0) t in
-        admitted_by r x c
-        (λ l h. implied_in (has r l) (has c l) (sym (has_and c r l) ∙ ap (λ w. has w l) (eqb-true (bit_and c r) r tests.0)))
-        (λ l h. implied_out (has x l) (has c l) (sym (has_and c x l) ∙ ap (λ w. has w l) (eqb-true (bit_and c x) 0 tests.1) ∙ has_zero l))
+        let tests = and_parts (bit_and c w.required == w.required) (bit_and c w.excluded == 0) t in
+        let ins : bit_and c w.required ≡ w.required = eqb-true (bit_and c w.required) w.required tests.0 in
+        let outs : bit_and c w.excluded ≡ 0 = eqb-true (bit_and c w.excluded) 0 tests.1 in
+        by_each w c (λ l h. grind (arith, ap (λ v. has v l) ins, ap (λ v. has v l) outs, has_and c w.required l, has_and c w.excluded l, has_zero l))
 
-    from : conjunction_admits r x c ≡ true → (bit_and c r == r && bit_and c x == 0) ≡ true
+    from : conjunction_admits w c ≡ true → (bit_and c w.required == w.required && bit_and c w.excluded == 0) ≡ true
     from t =
-        and_from (bit_and c r == r) (bit_and c x == 0)
-        (eq-eqb (bit_and c r) r (same_word 64 (bit_and c r) r (lt_of_le_of_lt (and_le_r c r) hr) hr (λ l h. has_and c r l ∙ in_implied (has r l) (has c l) (each_in r x c t l h))))
-        (eq-eqb (bit_and c x) 0 (same_word 64 (bit_and c x) 0 (lt_of_le_of_lt (and_le_r c x) hx) (pow_pos 64) (λ l h. has_and c x l ∙ out_implied (has x l) (has c l) (each_out r x c t l h) ∙ sym (has_zero l))))
+        and_from (bit_and c w.required == w.required) (bit_and c w.excluded == 0)
+        (eq-eqb (bit_and c w.required) w.required (same_word 64 (bit_and c w.required) w.required (lt_of_le_of_lt (and_le_r c w.required) wide.required) wide.required (λ l h. grind (arith, has_and c w.required l, each w c t l h))))
+        (eq-eqb (bit_and c w.excluded) 0 (same_word 64 (bit_and c w.excluded) 0 (lt_of_le_of_lt (and_le_r c w.excluded) wide.excluded) (pow_pos 64) (λ l h. grind (arith, has_and c w.excluded l, has_zero l, each w c t l h))))
 
-apart : (r x c : Bool) → implies r c ≡ true → implies x (not c) ≡ true → (r && x) ≡ false
-apart true true true e f = sym f
-apart true true false e f = sym e
-apart true false c e f = refl
-apart false x c e f = refl
-
--- words that admit a choice do not contradict each other
-pub consistent : (r x c : ℕ) → r < 2 ^ 64 → x < 2 ^ 64 → conjunction_admits r x c ≡ true → bit_and r x ≡ 0
-consistent r x c hr hx t =
-    same_word 64 (bit_and r x) 0 (and_lt 64 r x hr hx) (pow_pos 64)
-    (λ l h. has_and r x l ∙ apart (has r l) (has x l) (has c l) (each_in r x c t l h) (each_out r x c t l h) ∙ sym (has_zero l))
+-- words that admit a choice are consistent
+pub consistent : (w : Words) (c : ℕ) → AreWide w → conjunction_admits w c ≡ true → bit_and w.required w.excluded ≡ 0
+consistent w c wide t =
+    same_word 64 (bit_and w.required w.excluded) 0 (and_lt 64 w.required w.excluded wide.required wide.excluded) (pow_pos 64)
+    (λ l h. grind (arith, has_and w.required w.excluded l, has_zero l, each w c t l h))
 
 -- words that contradict each other admit none
-pub contradiction : (r x c : ℕ) → r < 2 ^ 64 → x < 2 ^ 64 → (bit_and r x ≢ 0) → conjunction_admits r x c ≡ false
-contradiction r x c hr hx ne = never_true (conjunction_admits r x c) (λ t. ne (consistent r x c hr hx t))
+pub contradiction : (w : Words) (c : ℕ) → AreWide w → is_consistent w ≡ false → conjunction_admits w c ≡ false
+contradiction w c wide e = never_true (conjunction_admits w c) (λ t. eqb-false (bit_and w.required w.excluded) 0 e (consistent w c wide t))
 
-implied_same : (a : Bool) → implies a a ≡ true
-implied_same true = refl
-implied_same false = refl
+-- consistent words admit the choice of just the labels that they require
+pub least : (w : Words) → is_consistent w ≡ true → conjunction_admits w w.required ≡ true
+least w e =
+    let none : bit_and w.required w.excluded ≡ 0 = eqb-true (bit_and w.required w.excluded) 0 e in
+    by_each w w.required (λ l h. grind (arith, ap (λ v. has v l) none, has_and w.required w.excluded l, has_zero l))
 
-implied_apart : (r x : Bool) → (r && x) ≡ false → implies x (not r) ≡ true
-implied_apart true true e = sym e
-implied_apart true false e = refl
-implied_apart false true e = refl
-implied_apart false false e = refl
-
--- words that do not contradict each other admit the choice of just the labels that they require
-pub least : (r x : ℕ) → bit_and r x ≡ 0 → conjunction_admits r x r ≡ true
-least r x e =
-    admitted_by r x r (λ l h. implied_same (has r l))
-    (λ l h. implied_apart (has r l) (has x l) (sym (has_and r x l) ∙ ap (λ w. has w l) e ∙ has_zero l))
-
-full_small : full < 2 ^ 64
-full_small = omega arith
-
-pub full_empty : (c : ℕ) → conjunction_admits full full c ≡ false
-full_empty c = contradiction full full c full_small full_small (λ e. omega (arith, e))
+-- the one empty value admits no choice
+pub full_empty : (c : ℕ) → conjunction_admits empty_words c ≡ false
+full_empty c = contradiction empty_words c (record { required = omega arith; excluded = omega arith }) refl
 
 -- the canonical words mean the same
-pub canonical_admits : (r x : ℕ) → r < 2 ^ 64 → x < 2 ^ 64 → admits (canonical r x) ≡ conjunction_admits r x
-canonical_admits r x hr hx = go (bit_and r x == 0) refl
-  where
-    go : (b : Bool) → (bit_and r x == 0) ≡ b → admits (cond b (words r x) empty_words) ≡ conjunction_admits r x
-    go true e = refl
-    go false e = fun_ext (λ c. full_empty c ∙ sym (contradiction r x c hr hx (eqb-false (bit_and r x) 0 e)))
-
-implied_or : (a b c : Bool) → implies (a || b) c ≡ (implies a c && implies b c)
-implied_or true true true = refl
-implied_or true true false = refl
-implied_or true false true = refl
-implied_or true false false = refl
-implied_or false b c = refl
+pub canonical_admits : (w : Words) → AreWide w → conjunction_admits (canonical w) ≡ conjunction_admits w
+canonical_admits w wide =
+    cond_both (is_consistent w) w empty_words (λ v. conjunction_admits v ≡ conjunction_admits w) (λ _. refl)
+    (λ e. fun_ext (λ c. full_empty c ∙ sym (contradiction w c wide e)))
 
 -- joined words ask for what both ask for
-pub meet_admits : (r x r' x' : ℕ) → conjunction_admits (bit_or r r') (bit_or x x') ≡ meet (conjunction_admits r x) (conjunction_admits r' x')
-meet_admits r x r' x' = fun_ext (λ c. same_truth (conjunction_admits (bit_or r r') (bit_or x x') c) (conjunction_admits r x c && conjunction_admits r' x' c) (to c) (from c))
+joined_admits : (r x r' x' : ℕ) → conjunction_admits (words (bit_or r r') (bit_or x x')) ≡ meet (conjunction_admits (words r x)) (conjunction_admits (words r' x'))
+joined_admits r x r' x' = fun_ext (λ c. same_truth (conjunction_admits (words (bit_or r r') (bit_or x x')) c) (conjunction_admits (words r x) c && conjunction_admits (words r' x') c) (to c) (from c))
   where
-    ins : (c l : ℕ) → implies (has (bit_or r r') l) (has c l) ≡ (implies (has r l) (has c l) && implies (has r' l) (has c l))
-    ins c l = ap (λ b. implies b (has c l)) (has_or r r' l) ∙ implied_or (has r l) (has r' l) (has c l)
-
-    outs : (c l : ℕ) → implies (has (bit_or x x') l) (not (has c l)) ≡ (implies (has x l) (not (has c l)) && implies (has x' l) (not (has c l)))
-    outs c l = ap (λ b. implies b (not (has c l))) (has_or x x' l) ∙ implied_or (has x l) (has x' l) (not (has c l))
-
-    to : (c : ℕ) → conjunction_admits (bit_or r r') (bit_or x x') c ≡ true → (conjunction_admits r x c && conjunction_admits r' x' c) ≡ true
+    to : (c : ℕ) → conjunction_admits (words (bit_or r r') (bit_or x x')) c ≡ true → (conjunction_admits (words r x) c && conjunction_admits (words r' x') c) ≡ true
     to c t =
-        let a = λ (l : ℕ) (h : l < 64). and_parts (implies (has r l) (has c l)) (implies (has r' l) (has c l)) (sym (ins c l) ∙ each_in (bit_or r r') (bit_or x x') c t l h) in
-        let b = λ (l : ℕ) (h : l < 64). and_parts (implies (has x l) (not (has c l))) (implies (has x' l) (not (has c l))) (sym (outs c l) ∙ each_out (bit_or r r') (bit_or x x') c t l h) in
-        and_from (conjunction_admits r x c) (conjunction_admits r' x' c)
-        (admitted_by r x c (λ l h. (a l h).0) (λ l h. (b l h).0))
-        (admitted_by r' x' c (λ l h. (a l h).1) (λ l h. (b l h).1))
+        and_from (conjunction_admits (words r x) c) (conjunction_admits (words r' x') c)
+        (by_each (words r x) c (λ l h. grind (arith, has_or r r' l, has_or x x' l, each (words (bit_or r r') (bit_or x x')) c t l h)))
+        (by_each (words r' x') c (λ l h. grind (arith, has_or r r' l, has_or x x' l, each (words (bit_or r r') (bit_or x x')) c t l h)))
 
-    from : (c : ℕ) → (conjunction_admits r x c && conjunction_admits r' x' c) ≡ true → conjunction_admits (bit_or r r') (bit_or x x') c ≡ true
+    from : (c : ℕ) → (conjunction_admits (words r x) c && conjunction_admits (words r' x') c) ≡ true → conjunction_admits (words (bit_or r r') (bit_or x x')) c ≡ true
     from c t =
-        let p = and_parts (conjunction_admits r x c) (conjunction_admits r' x' c) t in
-        admitted_by (bit_or r r') (bit_or x x') c
-        (λ l h. ins c l ∙ and_from (implies (has r l) (has c l)) (implies (has r' l) (has c l)) (each_in r x c p.0 l h) (each_in r' x' c p.1 l h))
-        (λ l h. outs c l ∙ and_from (implies (has x l) (not (has c l))) (implies (has x' l) (not (has c l))) (each_out r x c p.0 l h) (each_out r' x' c p.1 l h))
+        let both = and_parts (conjunction_admits (words r x) c) (conjunction_admits (words r' x') c) t in
+        by_each (words (bit_or r r') (bit_or x x')) c (λ l h. grind (arith, has_or r r' l, has_or x x' l, each (words r x) c both.0 l h, each (words r' x') c both.1 l h))
+
+-- the met words admit what both admit
+pub meet_admits : (g h : Words) → AreWide g → AreWide h → conjunction_admits (meet_words g h) ≡ meet (conjunction_admits g) (conjunction_admits h)
+meet_admits g h gs hs =
+    canonical_admits (words (bit_or g.required h.required) (bit_or g.excluded h.excluded))
+    (record { required = or_lt 64 g.required h.required gs.required hs.required; excluded = or_lt 64 g.excluded h.excluded gs.excluded hs.excluded })
+    ∙ joined_admits g.required g.excluded h.required h.excluded
 
 -- no word asks for anything
-pub none_asked : conjunction_admits 0 0 ≡ everything
-none_asked = fun_ext (λ c. admitted_by 0 0 c (λ l h. ap (λ b. implies b (has c l)) (has_zero l)) (λ l h. ap (λ b. implies b (not (has c l))) (has_zero l)))
-
-implied_by_eq : (l m : ℕ) (f : ℕ → Bool) → f l ≡ true → implies (l == m) (f m) ≡ true
-implied_by_eq l m f e = go (l == m) refl
-  where
-    go : (b : Bool) → (l == m) ≡ b → implies b (f m) ≡ true
-    go true t = ap f (sym (eqb-true l m t)) ∙ e
-    go false t = refl
+pub none_asked : conjunction_admits (words 0 0) ≡ everything
+none_asked = fun_ext (λ c. by_each (words 0 0) c (λ l h. grind (arith, has_zero l)))
 
 -- one label is asked for
-pub one_admits : (s : Sign) (l : ℕ) → l < 64 → (c : ℕ) → admits (one_label s l) c ≡ signed s (has c l)
+pub one_admits : (s : Sign) (l : ℕ) → l < 64 → (c : ℕ) → conjunction_admits (one_label s l) c ≡ signed s (has c l)
 one_admits Plus l h c =
-    same_truth (conjunction_admits (2 ^ l) 0 c) (has c l)
-    (λ t. ap (λ b. implies b (has c l)) (sym (eq-eqb l l refl) ∙ sym (has_pow l l)) ∙ each_in (2 ^ l) 0 c t l h)
-    (λ t. admitted_by (2 ^ l) 0 c (λ m k. ap (λ b. implies b (has c m)) (has_pow l m) ∙ implied_by_eq l m (has c) t) (λ m k. ap (λ b. implies b (not (has c m))) (has_zero m)))
+    same_truth (conjunction_admits (words (2 ^ l) 0) c) (has c l)
+    (λ t. grind (arith, nat_tests, has_pow l l, each (words (2 ^ l) 0) c t l h))
+    (λ t. by_each (words (2 ^ l) 0) c (λ m k. grind (arith, nat_tests, has_pow l m, has_zero m)))
 one_admits Minus l h c =
-    same_truth (conjunction_admits 0 (2 ^ l) c) (not (has c l))
-    (λ t. ap (λ b. implies b (not (has c l))) (sym (eq-eqb l l refl) ∙ sym (has_pow l l)) ∙ each_out 0 (2 ^ l) c t l h)
-    (λ t. admitted_by 0 (2 ^ l) c (λ m k. ap (λ b. implies b (has c m)) (has_zero m)) (λ m k. ap (λ b. implies b (not (has c m))) (has_pow l m) ∙ implied_by_eq l m (λ n. not (has c n)) t))
+    same_truth (conjunction_admits (words 0 (2 ^ l)) c) (not (has c l))
+    (λ t. grind (arith, nat_tests, has_pow l l, each (words 0 (2 ^ l)) c t l h))
+    (λ t. by_each (words 0 (2 ^ l)) c (λ m k. grind (arith, nat_tests, has_pow l m, has_zero m)))
 
 -- only labels below 64 are looked at
-pub ignores : (r x : ℕ) → IgnoresFrom 64 (conjunction_admits r x)
-ignores r x c d e =
-    every_label_same (as_asked r x c) (as_asked r x d)
-    (λ l h. ap (λ b. implies (has r l) b && implies (has x l) (not b)) (e l h))
+pub ignores : (w : Words) → IgnoresFrom 64 (conjunction_admits w)
+unfolding conjunction_admits
+ignores w c d e = every_label_same (as_asked w c) (as_asked w d) (λ l h. ap (λ b. implies (has w.required l) b && implies (has w.excluded l) (not b)) (e l h))
 
 -- words are empty exactly if they contradict each other
-pub empty_by_words : (r x : ℕ) → r < 2 ^ 64 → x < 2 ^ 64 → not (bit_and r x == 0) ≡ empty (conjunction_admits r x)
-empty_by_words r x hr hx = ap not (go (bit_and r x == 0) refl)
+pub empty_by_words : (w : Words) → AreWide w → not (is_consistent w) ≡ empty (conjunction_admits w)
+empty_by_words w wide = ap not (go (is_consistent w) refl)
   where
-    go : (b : Bool) → (bit_and r x == 0) ≡ b → b ≡ some_choice (conjunction_admits r x)
-    go true e = sym (some_choice_by (conjunction_admits r x) r hr (least r x (eqb-true (bit_and r x) 0 e)))
-    go false e = sym (no_choice (conjunction_admits r x) (λ c. contradiction r x c hr hx (eqb-false (bit_and r x) 0 e)))
+    go : (b : Bool) → is_consistent w ≡ b → b ≡ some_choice (conjunction_admits w)
+    go true e = sym (some_choice_by (conjunction_admits w) w.required wide.required (least w e))
+    go false e = sym (no_choice (conjunction_admits w) (λ c. contradiction w c wide e))
 
--- a literal's words, where its label is known and where it is not
-pub known_words : (literal : Literal) (s : Sign) → literal.sign ≡ s → literal.label < 64 → literal_words literal ≡ one_label s literal.label
-known_words literal s is h = cond-true (nat_lt literal.label 64) (one_label literal.sign literal.label) empty_words (lt-ltb literal.label 64 h) ∙ ap (λ t. one_label t literal.label) is
-
-pub unknown_words : (literal : Literal) → 64 ≤ literal.label → literal_words literal ≡ empty_words
-unknown_words literal h = cond-false (nat_lt literal.label 64) (one_label literal.sign literal.label) empty_words (le-ltb literal.label 64 h)
-
-pub literal_admits : (literal : Literal) → admits (literal_words literal) ≡ literal_guard 64 literal
+-- a literal's words admit what its guard admits
+pub literal_admits : (literal : Literal) → conjunction_admits (literal_words literal) ≡ literal_guard 64 literal
 literal_admits literal = fun_ext (λ c. ⊎_elim (below c) (above c) (cases_lt literal.label 64))
   where
-    below : (c : ℕ) → literal.label < 64 → admits (literal_words literal) c ≡ literal_guard 64 literal c
-    below c h =
-        ap (λ w. admits w c) (known_words literal literal.sign refl h)
-        ∙ one_admits literal.sign literal.label h c
-        ∙ sym (ap (λ b. b && holds literal c) (lt-ltb literal.label 64 h))
+    below : (c : ℕ) → literal.label < 64 → conjunction_admits (literal_words literal) c ≡ literal_guard 64 literal c
+    below c h = grind (arith, nat_tests, one_admits literal.sign literal.label h c)
 
-    above : (c : ℕ) → 64 ≤ literal.label → admits (literal_words literal) c ≡ literal_guard 64 literal c
-    above c h =
-        ap (λ w. admits w c) (unknown_words literal h) ∙ full_empty c ∙ sym (ap (λ b. b && holds literal c) (le-ltb literal.label 64 h))
+    above : (c : ℕ) → 64 ≤ literal.label → conjunction_admits (literal_words literal) c ≡ literal_guard 64 literal c
+    above c h = grind (arith, nat_tests, full_empty c)
 
 -- a canonical guard that is empty is the one empty guard
-pub one_empty_lem : (r x : ℕ) → is_canonical r x ≡ true → not (bit_and r x == 0) ≡ true → words r x ≡ empty_words
-one_empty_lem r x s e = go (bit_and r x == 0) s e
-  where
-    go : (b : Bool) → (b || r == full && x == full) ≡ true → not b ≡ true → words r x ≡ empty_words
-    go true t n = absurd (false≢true n)
-    go false t n =
-        let both = and_parts (r == full) (x == full) t in
-        ap₂ words (eqb-true r full both.0) (eqb-true x full both.1)
+pub one_empty_lem : (w : Words) → is_canonical w ≡ true → not (is_consistent w) ≡ true → w ≡ empty_words
+one_empty_lem w s e = grind (arith, nat_tests)

@@ -1,5 +1,5 @@
 -- The conjunction kind: a word of labels that must be in a choice, and one of labels that must be out. Assumes nothing.
-use Rattle.std.specs.Prelude.{ℕ, ◌-◌, ◌^◌, Bool, true, false, cond, not, ◌&&◌, ◌||◌, ◌==◌, bit_and, bit_or, nat_lt}
+use Rattle.std.specs.Prelude.{ℕ, ◌-◌, ◌^◌, ◌<◌, Bool, true, false, cond, not, ◌&&◌, ◌||◌, ◌==◌, bit_and, bit_or, nat_lt}
 use Rattle.labels.specs.declared.literals.Literal.{Literal}
 use Rattle.labels.specs.declared.literals.Sign.{Sign}
 use Rattle.labels.specs.declared.literals.Sign.TheVariants.{Plus, Minus}
@@ -20,12 +20,12 @@ implies true b = b
 implies false b = true
 
 -- one label of a choice is as the words ask
-abbrev pub as_asked : ℕ → ℕ → ℕ → ℕ → Bool
-as_asked required excluded choice l = implies (has required l) (has choice l) && implies (has excluded l) (not (has choice l))
+abbrev pub as_asked : Words → ℕ → ℕ → Bool
+as_asked w choice l = implies (has w.required l) (has choice l) && implies (has w.excluded l) (not (has choice l))
 
 -- a choice is admitted when each label is as the words ask
-abbrev pub conjunction_admits : ℕ → ℕ → ℕ → Bool
-conjunction_admits required excluded choice = every_label (as_asked required excluded choice)
+unfoldable pub conjunction_admits : Words → ℕ → Bool
+conjunction_admits w choice = every_label (as_asked w choice)
 
 -- all labels
 abbrev pub full : ℕ
@@ -35,13 +35,17 @@ full = 2 ^ 64 - 1
 abbrev pub empty_words : Words
 empty_words = words full full
 
--- no label is asked to be both in and out, or this is the one empty guard
-abbrev pub is_canonical : ℕ → ℕ → Bool
-is_canonical r x = bit_and r x == 0 || r == full && x == full
+-- no label is asked to be both in and out
+abbrev pub is_consistent : Words → Bool
+is_consistent w = bit_and w.required w.excluded == 0
+
+-- the words are consistent, or this is the one empty guard
+abbrev pub is_canonical : Words → Bool
+is_canonical w = is_consistent w || w.required == full && w.excluded == full
 
 -- words that contradict each other stand for the one empty guard
-abbrev pub canonical : ℕ → ℕ → Words
-canonical r x = cond (bit_and r x == 0) (words r x) empty_words
+abbrev pub canonical : Words → Words
+canonical w = cond (is_consistent w) w empty_words
 
 -- one label that must be in, or out
 abbrev pub one_label : Sign → ℕ → Words
@@ -54,4 +58,9 @@ literal_words literal = cond (nat_lt literal.label 64) (one_label literal.sign l
 
 -- the meet asks for what both ask for
 abbrev pub meet_words : Words → Words → Words
-meet_words g h = canonical (bit_or g.required h.required) (bit_or g.excluded h.excluded)
+meet_words g h = canonical (words (bit_or g.required h.required) (bit_or g.excluded h.excluded))
+
+-- both words fit 64 bits
+pub record AreWide (w : Words) : Type 0 where
+  pub required : w.required < 2 ^ 64
+  pub excluded : w.excluded < 2 ^ 64

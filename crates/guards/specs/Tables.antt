@@ -6,7 +6,7 @@ use Rattle.labels.specs.declared.literals.Sign.TheVariants.{Plus, Minus}
 use Rattle.words.specs.Bits.{has, word_of}
 
 -- bit c of the word is 1 exactly if choice c is admitted; of a choice only the six lowest labels count
-abbrev pub table_admits : ℕ → ℕ → Bool
+unfoldable pub table_admits : ℕ → ℕ → Bool
 table_admits word choice = has word (choice % 64)
 
 -- the word of the guard that admits what the test admits

@@ -1,26 +1,39 @@
 // The conjunction kind: labels that must be in, and labels that must be out.
-ghost use Rattle.std.specs.Prelude.{◌≡◌, true, not, ◌&&◌, ◌==◌, bit_and};
-ghost use Rattle.guards.specs.Conjunctions.{conjunction_admits, is_canonical, canonical, words, literal_words, meet_words, empty_words};
+ghost use Rattle.std.specs.Prelude.{◌≡◌, true};
+ghost use Rattle.guards.specs.Conjunctions.{conjunction_admits, is_canonical, canonical, words, literal_words, meet_words, empty_words, AreWide};
 ghost use Rattle.labels.specs.Guards.{everything, literal_guard, meet, empty};
 ghost use Rattle.guards.specs.Conjoined;
 ghost use Rattle.std.proofs.Common.{rules};
 
 use labels::{Choice, Guard, Literal, Sign};
+use std::marker::Model;
 
-// Both words have bit l set for the labels l that they name. Words that contradict each other are
-// all written as one value, so that there is one empty guard.
+// Both words have bit l set for the labels l that they name.
 #[derive(Clone, Copy, PartialEq, Eq)]
 pub struct Conjunction {
     required: u64,
     excluded: u64,
-    ghost one_empty: { is_canonical required excluded ≡ true },
 }
 
-// The words, by plain contracts; what they admit is said below.
+// Clauses see the two words. Words that contradict each other are all written as one value, so that
+// there is one empty guard.
+impl Model for Conjunction {
+    ghost use Rattle.std.specs.Prelude.{◌≡◌, true};
+    ghost use Rattle.guards.specs.Conjunctions.{Words, words, is_canonical};
+
+    ghost Value = { Words };
+
+    ghost view = { λ g. words g.required g.excluded };
+
+    ghost invariant = { λ g. is_canonical (words g.required g.excluded) ≡ true };
+
+    ghost inverse = { λ w. record { required = w.required; excluded = w.excluded } };
+}
+
 impl Conjunction {
     // Asks for the labels of one word to be in and for those of the other to be out.
     pub fn of_words(required: u64, excluded: u64) -> Conjunction
-        ensures { words result.required result.excluded ≡ canonical required excluded }
+        ensures { result ≡ canonical (words required excluded) }
     {
         if required & excluded == 0 {
             Conjunction { required, excluded }
@@ -31,7 +44,7 @@ impl Conjunction {
 
     // The one empty guard.
     fn contradiction() -> Conjunction
-        ensures { words result.required result.excluded ≡ empty_words }
+        ensures { result ≡ empty_words }
     {
         Conjunction {
             required: u64::MAX,
@@ -39,94 +52,72 @@ impl Conjunction {
         }
     }
 
-    // Asks for nothing.
-    fn unconditional() -> Conjunction
-        ensures { words result.required result.excluded ≡ words 0 0 }
+    // Asks for the literal's label to be in, or to be out.
+    // A function of its own, since each of its three outcomes would owe both promises of `of_literal`.
+    fn asking(literal: Literal) -> Conjunction
+        ensures { result ≡ literal_words literal }
+    {
+        match (1u64.checked_shl(literal.label), literal.sign) {
+            (None, _) => Conjunction::contradiction(),
+            (Some(word), Sign::Plus) => Conjunction::of_words(word, 0),
+            (Some(word), Sign::Minus) => Conjunction::of_words(0, word),
+        }
+    }
+}
+
+// It knows all labels of a choice.
+impl Guard for Conjunction {
+    ghost known = { 64 };
+
+    ghost admitted = { conjunction_admits };
+
+    ghost few = { Prim.search rules };
+
+    ghost ignores = { Conjoined.ignores };
+
+    fn label_count() -> u32 {
+        u64::BITS
+    }
+
+    #[tactic(auto, using(crate::specs::Conjoined::none_asked))]
+    fn everything() -> Conjunction
+        ensures admitted { conjunction_admits result ≡ everything }
+        ensures value { result ≡ words 0 0 }
     {
         Conjunction::of_words(0, 0)
     }
 
-    // Asks for the literal's label to be in, or to be out.
-    fn asking(literal: Literal) -> Conjunction
-        ensures { words result.required result.excluded ≡ literal_words literal }
+    #[tactic(auto, using(crate::specs::Conjoined::literal_admits))]
+    fn of_literal(literal: Literal) -> Conjunction
+        ensures admitted { conjunction_admits result ≡ literal_guard 64 literal }
+        ensures value { result ≡ literal_words literal }
     {
-        if literal.label >= 64 {
-            return Conjunction::contradiction();
-        }
-        let word = 1u64 << literal.label;
-        match literal.sign {
-            Sign::Plus => Conjunction::of_words(word, 0),
-            Sign::Minus => Conjunction::of_words(0, word),
-        }
+        Conjunction::asking(literal)
     }
 
-    // Asks for what both ask for.
-    fn joined(self, other: Conjunction) -> Conjunction
-        ensures { words result.required result.excluded ≡ meet_words (words self.required self.excluded) (words other.required other.excluded) }
+    #[tactic(auto, using(crate::specs::Conjoined::meet_admits))]
+    fn meet(self, other: Conjunction) -> Conjunction
+        ensures admitted { conjunction_admits result ≡ meet (conjunction_admits self) (conjunction_admits other) }
+        ensures value { result ≡ meet_words self other }
     {
         let required = self.required | other.required;
         let excluded = self.excluded | other.excluded;
         Conjunction::of_words(required, excluded)
     }
 
-    // Whether the labels are as both words ask.
-    fn agrees(self, labels: u64) -> bool
-        ensures { result ≡ (bit_and labels self.required == self.required && bit_and labels self.excluded == 0) }
-    {
+    #[tactic(auto, using(crate::specs::Conjoined::by_words))]
+    fn admits(self, choice: Choice) -> bool {
+        let labels = choice.bits;
         labels & self.required == self.required && labels & self.excluded == 0
     }
 
-    // Whether some label is asked to be both in and out.
-    fn contradicts(self) -> bool
-        ensures { result ≡ not (bit_and self.required self.excluded == 0) }
+    #[tactic(auto, using(crate::specs::Conjoined::empty_by_words, crate::specs::Conjoined::one_empty_lem))]
+    fn is_empty(self) -> bool
+        ensures admitted { result ≡ empty (conjunction_admits self) }
+        ensures one { result ≡ true → self ≡ empty_words }
+        ensures canonical { is_canonical self ≡ true }
+        ensures wide { AreWide self }
     {
         self.required & self.excluded != 0
-    }
-}
-
-// It knows all 64 labels of a choice.
-impl Guard for Conjunction {
-    ghost known = { 64 };
-
-    ghost admitted = { λ g. conjunction_admits g.required g.excluded };
-
-    ghost few = { Prim.search rules };
-
-    ghost ignores = { λ g. Conjoined.ignores g.required g.excluded };
-
-    fn label_count() -> u32 {
-        64
-    }
-
-    fn everything() -> Conjunction
-        ensures admitted { conjunction_admits result.required result.excluded ≡ everything }
-        ensures value { words result.required result.excluded ≡ words 0 0 }
-    {
-        Conjunction::unconditional()
-    }
-
-    fn of_literal(literal: Literal) -> Conjunction
-        ensures admitted { conjunction_admits result.required result.excluded ≡ literal_guard 64 literal }
-        ensures value { words result.required result.excluded ≡ literal_words literal }
-    {
-        Conjunction::asking(literal)
-    }
-
-    fn meet(self, other: Conjunction) -> Conjunction
-        ensures admitted { conjunction_admits result.required result.excluded ≡ meet (conjunction_admits self.required self.excluded) (conjunction_admits other.required other.excluded) }
-        ensures value { words result.required result.excluded ≡ meet_words (words self.required self.excluded) (words other.required other.excluded) }
-    {
-        self.joined(other)
-    }
-
-    fn admits(self, choice: Choice) -> bool {
-        self.agrees(choice.bits)
-    }
-
-    fn is_empty(self) -> bool
-        ensures admitted { result ≡ empty (conjunction_admits self.required self.excluded) }
-        ensures one { result ≡ true → words self.required self.excluded ≡ empty_words }
-    {
-        self.contradicts()
     }
 }

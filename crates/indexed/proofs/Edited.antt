@@ -1,13 +1,12 @@
 -- What an insertion and a removal leave of ordered entries. Assumes nothing.
 use Rattle.std.proofs.Common.{◌≡◌, ℕ, suc, ◌+◌, ◌-◌, ◌<◌, ◌≤◌, Bool, true, false, cond, not, ◌&&◌, ◌||◌, List, ◌∷◌, length, get_or, take, drop, ℤ, sym, refl, ap, ◌∙◌, subst, ap₂, inl, inr, add-one, arith, take-append-drop}
-use Rattle.std.specs.List.{insert, remove}
+use Rattle.std.specs.List.{insert, remove, list_any}
 use Rattle.std.proofs.lemmas.List.{drop_more}
 use Rattle.std.proofs.lemmas.List.Edits.{length-insert, get_or-insert_below, get_or-insert_at, get_or-insert_above, length-remove, get_or-remove_below, get_or-remove_above}
 use Rattle.std.proofs.lemmas.Int.{ints}
 use Rattle.std.proofs.lemmas.Bool.{cases_lt, cases_order, both_ways, false≢true, cond-true}
-use Rattle.words.specs.Lists.{any}
 use Rattle.words.proofs.Searched.{never_true}
-use Rattle.words.proofs.Walked.{any_append, any_passes}
+use Rattle.std.proofs.lemmas.List.Folds.{list_any-append, list_any_at}
 use Rattle.indexed.specs.declared.entries.Entry.{Entry}
 use Rattle.indexed.specs.Index.{before, ascending, same_pair, lists, Splits}
 use Rattle.indexed.proofs.Found.{found}
@@ -37,7 +36,7 @@ inserted_ascends es e at order it absent = ascending_from (insert es at e) each
     precedes d k from within =
         before_else (get_or es k d) e (it.above k d from within)
         (never_true (same_pair (get_or es k d).number (get_or es k d).place e.number e.place)
-        (λ same. both_ways _ absent (any_passes (λ x. same_pair x.number x.place e.number e.place) es k d within same)))
+        (λ same. both_ways _ absent (list_any_at (λ x. same_pair x.number x.place e.number e.place) es k d within same)))
 
     each : (i j : ℕ) (d : Entry) → i < j → j < length (insert es at e) → comes (get_or (insert es at e) i d) (get_or (insert es at e) j d) ≡ true
     each i j d lower within =
@@ -67,9 +66,9 @@ or_last false false false = refl
 pub lists_inserted : (es : List Entry) (e : Entry) (at : ℕ) (n : ℤ) (p : ℕ) → lists (insert es at e) n p ≡ (lists es n p || same_pair e.number e.place n p)
 lists_inserted es e at n p =
     let is : Entry → Bool = λ x. same_pair x.number x.place n p in
-    any_append is (take at es) (e ∷ drop at es)
-    ∙ or_last (any is (take at es)) (is e) (any is (drop at es))
-    ∙ ap (λ b. b || is e) (sym (any_append is (take at es) (drop at es)) ∙ ap (any is) (take-append-drop at es))
+    list_any-append is (take at es) (e ∷ drop at es)
+    ∙ or_last (list_any is (take at es)) (is e) (list_any is (drop at es))
+    ∙ ap (λ b. b || is e) (sym (list_any-append is (take at es) (drop at es)) ∙ ap (list_any is) (take-append-drop at es))
 
 or_without : (a b c : Bool) → (b ≡ true → (a || c) ≡ false) → (a || c) ≡ ((a || (b || c)) && not b)
 or_without true true c none = absurd (false≢true (sym (none refl)))
@@ -121,11 +120,11 @@ module _ (es : List Entry) (at : ℕ) (d : Entry) (order : ascending es ≡ true
   lists_removed number place stood n p =
       let is : Entry → Bool = λ x. same_pair x.number x.place n p in
       let told = (same_pair_tells (get_or es at d).number (get_or es at d).place number place).0 stood in
-      let split = any_append is (take at es) (drop (suc at) es) in
+      let split = list_any-append is (take at es) (drop (suc at) es) in
       let behind : drop at es ≡ get_or es at d ∷ drop (suc at) es = drop_more es at d within ∙ ap (λ k. get_or es at d ∷ drop k es) (add-one at) in
-      let whole : any is es ≡ (any is (take at es) || (is (get_or es at d) || any is (drop (suc at) es))) = ap (any is) (sym (take-append-drop at es)) ∙ any_append is (take at es) (drop at es) ∙ ap (λ xs. any is (take at es) || any is xs) behind in
+      let whole : list_any is es ≡ (list_any is (take at es) || (is (get_or es at d) || list_any is (drop (suc at) es))) = ap (list_any is) (sym (take-append-drop at es)) ∙ list_any-append is (take at es) (drop at es) ∙ ap (λ xs. list_any is (take at es) || list_any is xs) behind in
       split
-      ∙ or_without (any is (take at es)) (is (get_or es at d)) (any is (drop (suc at) es)) (λ here. sym split ∙ gone n p here)
+      ∙ or_without (list_any is (take at es)) (is (get_or es at d)) (list_any is (drop (suc at) es)) (λ here. sym split ∙ gone n p here)
       ∙ ap₂ (λ b c. b && not c) (sym whole) (ap₂ (λ m x. same_pair m x n p) told.0 told.1)
 
 -- the same, as `insert` has it: the number was passed on, and there was room

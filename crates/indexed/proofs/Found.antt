@@ -1,14 +1,14 @@
 -- What stands at the position of a number with a place. Assumes nothing.
-use Rattle.std.proofs.Common.{◌≡◌, ℕ, ◌<◌, ◌≤◌, true, false, List, length, get_or, ℤ, Some, None, sym, refl, ap, ◌∙◌, subst, inl, inr, arith}
+use Rattle.std.proofs.Common.{◌≡◌, ℕ, ◌<◌, ◌≤◌, true, false, List, length, get_or, ℤ, pos, Some, None, sym, refl, ap, ◌∙◌, subst, inl, inr, arith}
 use Rattle.std.proofs.lemmas.Int.{ints}
 use Rattle.std.proofs.lemmas.Bool.{cases_lt, cases_order, both_ways}
-use Rattle.std.proofs.lemmas.Bool.Decides.{not_from_Decides}
+use Rattle.std.proofs.lemmas.Bool.Decides.{Decides-int_eq, not_from_Decides}
 use Rattle.words.proofs.Searched.{never_true}
-use Rattle.words.proofs.Walked.{any_passes}
-use Rattle.rows.specs.Cells.{same_number}
+use Rattle.std.proofs.lemmas.List.Folds.{list_any_at}
+use Rattle.std.specs.Ordering.{int_eq}
 use Rattle.indexed.specs.declared.entries.Entry.{Entry}
 use Rattle.indexed.specs.Index.{ascending, same_pair, lists, Splits, LowestListed}
-use Rattle.indexed.proofs.Order.{Comes, before_tells, before_apart, same_number_tells, same_pair_tells}
+use Rattle.indexed.proofs.Order.{Comes, before_tells, before_apart, same_pair_tells}
 use Rattle.indexed.proofs.Ordered.{in_order}
 use Rattle.indexed.proofs.Places.{any_at}
 
@@ -44,7 +44,7 @@ module _ (es : List Entry) (n : ℤ) (p at : ℕ) (order : ascending es ≡ true
       ]
 
   -- another number at the position: no place from p on is listed
-  pub lowest_none : (at < length es → same_number (get_or es at d).number n ≡ false) → (q : ℕ) → p ≤ q → lists es n q ≡ false
+  pub lowest_none : (at < length es → int_eq (get_or es at d).number n ≡ false) → (q : ℕ) → p ≤ q → lists es n q ≡ false
   lowest_none other q from =
       never_true (lists es n q)
       (λ listed.
@@ -54,22 +54,22 @@ module _ (es : List Entry) (n : ℤ) (p at : ℕ) (order : ascending es ≡ true
       let same = w.2 d in
       let is = (same_pair_tells (get_or es k d).number (get_or es k d).place n q).0 same in
       elim (cases_order k at) [
-        | inl here ↦ both_ways _ (other (omega arith)) ((same_number_tells _ n).1 (ap (λ m. (get_or es m d).number) (sym here) ∙ is.0))
+        | inl here ↦ both_ways _ (other (omega arith)) ((Decides-int_eq _ n).1 (ap (λ m. (get_or es m d).number) (sym here) ∙ is.0))
         | inr differ ↦ elim differ [
           | inl less ↦ not_below k q less from same
           | inr more ↦ elim (leads k more within) [
             | inl lower ↦ stays (omega arith) (inl (omega (arith, ints, is.0)))
-            | inr level ↦ both_ways _ (other (omega arith)) ((same_number_tells _ n).1 (level.0 ∙ is.0))
+            | inr level ↦ both_ways _ (other (omega arith)) ((Decides-int_eq _ n).1 (level.0 ∙ is.0))
           ]
         ]
       ])
 
   -- the number at the position: its place is the lowest from p on
-  pub lowest_some : at < length es → same_number (get_or es at d).number n ≡ true → LowestListed (lists es n) p (Some (get_or es at d).place)
+  pub lowest_some : at < length es → int_eq (get_or es at d).number n ≡ true → LowestListed (lists es n) p (Some (get_or es at d).place)
   lowest_some within it-is =
-      let level : (get_or es at d).number ≡ n = (same_number_tells (get_or es at d).number n).0 it-is in (
+      let level : (get_or es at d).number ≡ n = (Decides-int_eq (get_or es at d).number n).0 it-is in (
         elim (cases_lt (get_or es at d).place p) [ inl less ↦ absurd (stays within (inr (level, less))) | inr from ↦ from ],
-        any_passes (λ e. same_pair e.number e.place n (get_or es at d).place) es at d within ((same_pair_tells _ _ n _).1 (level, refl)),
+        list_any_at (λ e. same_pair e.number e.place n (get_or es at d).place) es at d within ((same_pair_tells _ _ n _).1 (level, refl)),
         λ q from less. never_true (lists es n q)
             (λ listed.
             let w = any_at (λ e. same_pair e.number e.place n q) es listed in
@@ -86,21 +86,26 @@ module _ (es : List Entry) (n : ℤ) (p at : ℕ) (order : ascending es ≡ true
             ]),
       )
 
--- the same, where the entries are read through a slice and the number was passed on
-module _ (es xs : List Entry) (m n : ℤ) (p at : ℕ) (slice : xs ≡ es) (passed : m ≡ n) (order : ascending es ≡ true) (it : Splits es m p at) (d : Entry) where
+-- what is read at the position, where the entries are read through a slice and the number was passed on
+module _ (es xs : List Entry) (m n : ℤ) (p at : ℕ) (slice : xs ≡ es) (passed : m ≡ n) (order : ascending es ≡ true) (it : Splits es m p at) where
   rises : ascending xs ≡ true
   rises = ap ascending slice ∙ order
 
   parts : Splits xs n p at
   parts = subst (λ k. Splits xs k p at) passed (subst (λ ys. Splits ys m p at) (sym slice) it)
 
-  pub read_some : at < length xs → true ≡ same_number (get_or xs at d).number m → LowestListed (lists es n) p (Some (get_or xs at d).place)
-  read_some within is =
-      let place : ℕ = (get_or xs at d).place in
-      subst (λ ys. LowestListed (lists ys n) p (Some place)) slice
-      (lowest_some xs n p at rises parts d within (ap (same_number (get_or xs at d).number) (sym passed) ∙ sym is))
+  pub read_same : (e : Entry) → at < length xs → e ≡ get_or xs at e → e.number ≡ n → LowestListed (lists es n) p (Some e.place)
+  read_same e within here same =
+      subst (λ ys. LowestListed (lists ys n) p (Some e.place)) slice
+      (subst (λ x. LowestListed (lists xs n) p (Some x.place)) (sym here)
+      (lowest_some xs n p at rises parts e within ((Decides-int_eq _ n).1 (ap (λ x. x.number) (sym here) ∙ same))))
 
-  pub read_none : (at < length xs → false ≡ same_number (get_or xs at d).number m) → LowestListed (lists es n) p None
-  read_none other =
+  pub read_other : (e : Entry) → e ≡ get_or xs at e → (e.number ≡ n → ⊥) → LowestListed (lists es n) p None
+  read_other e here other =
       subst (λ ys. LowestListed (lists ys n) p None) slice
-      (lowest_none xs n p at rises parts d (λ within. ap (same_number (get_or xs at d).number) (sym passed) ∙ sym (other within)))
+      (lowest_none xs n p at rises parts e (λ _. never_true _ (λ t. other (ap (λ x. x.number) here ∙ (Decides-int_eq _ n).0 t))))
+
+  pub read_past : length xs ≤ at → LowestListed (lists es n) p None
+  read_past past =
+      subst (λ ys. LowestListed (lists ys n) p None) slice
+      (lowest_none xs n p at rises parts (record { number = pos 0; place = 0 }) (λ within. absurd (omega arith)))

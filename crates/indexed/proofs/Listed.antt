@@ -2,12 +2,13 @@
 use Rattle.std.proofs.Common.{◌≡◌, ℕ, ◌+◌, ◌<◌, ◌≤◌, Bool, true, false, not, ◌&&◌, ◌||◌, ◌⊎◌, List, [], ◌∷◌, ◌++◌, length, get_or, take, set, ℤ, pos, Decides, sym, ap, ◌∙◌, inl, inr, ⊎_elim, arith}
 use Rattle.std.proofs.lemmas.List.{length-set, length-take-le, length_push, get_or-map, get_or-set_same, get_or-set_other, get_or-take, get_or_push, get_or_append_left}
 use Rattle.std.proofs.lemmas.Bool.{and_left, and_right, cases_eq, cases_lt, le-ltb}
-use Rattle.std.proofs.lemmas.Bool.Decides.{Decides-and, Decides-or, Decides-not, Decides-like, Decides-ltb, same_from_decides}
+use Rattle.std.proofs.lemmas.Bool.Decides.{Decides-int_eq, Decides-and, Decides-or, Decides-not, Decides-like, Decides-ltb, same_from_decides}
 use Rattle.rows.specs.declared.cells.Row.{Row}
-use Rattle.rows.specs.Cells.{cell, same_number}
+use Rattle.std.specs.Ordering.{int_eq}
+use Rattle.rows.specs.Cells.{cell}
 use Rattle.indexed.specs.Index.{same_pair}
 use Rattle.indexed.specs.Numbers.{first_numbers, stands}
-use Rattle.indexed.proofs.Order.{same_number_tells, same_pair_tells}
+use Rattle.indexed.proofs.Order.{same_pair_tells}
 
 -- the numbers are listed with their places, and nothing else is
 abbrev pub ListsAll : (ℤ → ℕ → Bool) → List ℤ → Type 0
@@ -22,7 +23,7 @@ abbrev Stands : List ℤ → ℤ → ℕ → Type 0
 Stands numbers n p = (p < length numbers) × (get_or numbers p (pos 0) ≡ n)
 
 stands_tells : (numbers : List ℤ) (n : ℤ) (p : ℕ) → Decides (stands numbers n p) (Stands numbers n p)
-stands_tells numbers n p = Decides-and _ _ (Decides-ltb p (length numbers)) (same_number_tells (get_or numbers p (pos 0)) n)
+stands_tells numbers n p = Decides-and _ _ (Decides-ltb p (length numbers)) (Decides-int_eq (get_or numbers p (pos 0)) n)
 
 module _ (numbers : List ℤ) (listed : ℤ → ℕ → Bool) (lists : ListsAll listed numbers) where
   -- what stands in the column is listed
@@ -34,7 +35,7 @@ module _ (numbers : List ℤ) (listed : ℤ → ℕ → Bool) (lists : ListsAll 
   not_listed_behind n p past = lists n p ∙ and_left _ _ (le-ltb p (length numbers) past)
 
   -- another number than the one there is not listed with the place
-  pub not_listed : (n : ℤ) (p : ℕ) → same_number (get_or numbers p (pos 0)) n ≡ false → listed n p ≡ false
+  pub not_listed : (n : ℤ) (p : ℕ) → int_eq (get_or numbers p (pos 0)) n ≡ false → listed n p ≡ false
   not_listed n p other = lists n p ∙ and_right _ _ other
 
 module _ (numbers : List ℤ) (listed after : ℤ → ℕ → Bool) (lists : ListsAll listed numbers) where

@@ -1,25 +1,17 @@
 -- The order of an index: what its tests tell. Assumes nothing.
-use Rattle.std.proofs.Common.{◌≡◌, ℕ, ◌<◌, ◌≤◌, true, false, ◌⊎◌, ℤ, pos, negsuc, ◌<ℤ◌, Decides, sym, ap, ◌∙◌, inl, inr, arith}
+use Rattle.std.proofs.Common.{◌≡◌, ℕ, ◌<◌, ◌≤◌, true, false, ◌⊎◌, ℤ, ◌<ℤ◌, Decides, sym, ◌∙◌, inl, inr, arith}
 use lib.Signed.{lt_z}
 use Rattle.std.proofs.lemmas.Int.{ints}
-use Rattle.std.proofs.lemmas.Bool.{cases_Bool, cases_order, eqb-true, eq-eqb, false≢true}
-use Rattle.std.proofs.lemmas.Bool.Decides.{Decides-and, Decides-or, Decides-eqb, Decides-ltb, not_from_Decides}
-use Rattle.rows.specs.Cells.{same_number}
+use Rattle.std.proofs.lemmas.Bool.{cases_Bool, cases_order}
+use Rattle.std.proofs.lemmas.Bool.Decides.{Decides-and, Decides-or, Decides-eqb, Decides-int_eq, Decides-ltb, not_from_Decides}
 use Rattle.indexed.specs.declared.entries.Entry.{Entry}
 use Rattle.indexed.specs.Index.{before, same_pair}
-
--- the test of two numbers tells whether they are equal
-pub same_number_tells : (a b : ℤ) → Decides (same_number a b) (a ≡ b)
-same_number_tells (pos a) (pos b) = (λ e. ap pos (eqb-true a b e), λ e. eq-eqb a b (cc))
-same_number_tells (pos a) (negsuc b) = (λ e. absurd (false≢true e), λ e. cc)
-same_number_tells (negsuc a) (pos b) = (λ e. absurd (false≢true e), λ e. cc)
-same_number_tells (negsuc a) (negsuc b) = (λ e. ap negsuc (eqb-true a b e), λ e. eq-eqb a b (cc))
 
 lower_tells : (a b : ℤ) → Decides (lt_z a b) (a <ℤ b)
 lower_tells a b = (λ e. grind (arith, ints), λ e. grind (arith, ints))
 
 pub same_pair_tells : (a : ℤ) (x : ℕ) (n : ℤ) (p : ℕ) → Decides (same_pair a x n p) ((a ≡ n) × (x ≡ p))
-same_pair_tells a x n p = Decides-and _ _ (same_number_tells a n) (Decides-eqb x p)
+same_pair_tells a x n p = Decides-and _ _ (Decides-int_eq a n) (Decides-eqb x p)
 
 -- the number is lower, or it is the same and the place is lower
 abbrev pub Comes : ℤ → ℕ → ℤ → ℕ → Type 0
@@ -27,7 +19,7 @@ Comes a x n p = (a <ℤ n) ⊎ ((a ≡ n) × (x < p))
 
 pub before_tells : (e : Entry) (n : ℤ) (p : ℕ) → Decides (before e n p) (Comes e.number e.place n p)
 before_tells e n p =
-    Decides-or _ _ (lower_tells e.number n) (Decides-and _ _ (same_number_tells e.number n) (Decides-ltb e.place p))
+    Decides-or _ _ (lower_tells e.number n) (Decides-and _ _ (Decides-int_eq e.number n) (Decides-ltb e.place p))
 
 -- what comes before an entry comes before all that the entry comes before
 pub before_trans : (a b : Entry) (n : ℤ) (p : ℕ) → before a b.number b.place ≡ true → before b n p ≡ true → before a n p ≡ true

@@ -4,8 +4,9 @@ use Rattle.std.specs.List.{swap_remove}
 use Rattle.std.proofs.lemmas.List.{length-map, length-set, map_push, map-set, get_or-set_same, get_or-set_other}
 use Rattle.std.proofs.lemmas.Bool.{cases_eq}
 use Rattle.rows.specs.declared.cells.Row.{Row}
-use Rattle.rows.specs.Cells.{cell, same_number}
-use Rattle.indexed.specs.declared.tables.Indexed.{Indexed}
+use Rattle.std.specs.Ordering.{int_eq}
+use Rattle.rows.specs.Cells.{cell}
+use Rattle.indexed.specs.declared.tables.IndexedRows.{IndexedRows}
 use Rattle.indexed.specs.Index.{same_pair, lists, renumbered}
 use Rattle.indexed.specs.Numbers.{first_numbers, stands}
 use Rattle.indexed.proofs.Listed.{ListsAll, listed_at, not_listed, not_listed_behind, lists_added, lists_changed, lists_shortened}
@@ -15,7 +16,7 @@ use Rattle.indexed.proofs.Moved.{map_swapped}
 relisted : (listed : ℤ → ℕ → Bool) (numbers others : List ℤ) → others ≡ numbers → ListsAll listed numbers → ListsAll listed others
 relisted listed numbers others same it n p = it n p ∙ ap (λ xs. stands xs n p) (sym same)
 
-module _ {G : Type 0} (table : Indexed G) where
+module _ {G : Type 0} (table : IndexedRows G) where
   abbrev rows : List (Row G)
   rows = vec_items table.rows
 
@@ -46,8 +47,8 @@ module _ {G : Type 0} (table : Indexed G) where
 
     module _ (new : ℤ) where
       -- no other number is
-      pub other_not_listed : same_number old new ≡ false → listed new place ≡ false
-      other_not_listed other = not_listed numbers listed table.listed new place (ap (λ n. same_number n new) (sym stood) ∙ other)
+      pub other_not_listed : int_eq old new ≡ false → listed new place ≡ false
+      other_not_listed other = not_listed numbers listed table.listed new place (ap (λ n. int_eq n new) (sym stood) ∙ other)
 
       abbrev then_listed : ℤ → ℕ → Bool
       then_listed = renumbered (vec_items table.index.entries) place old new

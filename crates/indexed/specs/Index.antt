@@ -1,25 +1,25 @@
 -- An index: numbers with the places where they stand, in order. Assumes nothing.
 use Rattle.std.specs.Prelude.{◌≡◌, ℕ, ◌<◌, ◌≤◌, Bool, true, false, not, ◌&&◌, ◌||◌, List, [], ◌∷◌, length, ℤ, Some, None, Option, ◌==◌, int_lt, nat_lt, slice_index_or}
-use Rattle.words.specs.Lists.{all, any}
-use Rattle.rows.specs.Cells.{same_number}
+use Rattle.std.specs.List.{list_all, list_any}
+use Rattle.std.specs.Ordering.{int_eq}
 use Rattle.indexed.specs.declared.entries.Entry.{Entry}
 
 -- the entry comes before the number with the place: its number is lower, or its number is the same and its place is lower
 abbrev pub before : Entry → ℤ → ℕ → Bool
-before entry number place = int_lt entry.number number || (same_number entry.number number && nat_lt entry.place place)
+before entry number place = int_lt entry.number number || (int_eq entry.number number && nat_lt entry.place place)
 
 -- each entry comes before each later one
 abbrev pub ascending : List Entry → Bool
 ascending [] = true
-ascending (entry ∷ entries) = all (λ later. before entry later.number later.place) entries && ascending entries
+ascending (entry ∷ entries) = list_all (λ later. before entry later.number later.place) entries && ascending entries
 
 -- the two numbers are the same, and the two places
 abbrev pub same_pair : ℤ → ℕ → ℤ → ℕ → Bool
-same_pair number place n p = same_number number n && place == p
+same_pair number place n p = int_eq number n && place == p
 
 -- the number is listed with the place
 abbrev pub lists : List Entry → ℤ → ℕ → Bool
-lists entries number place = any (λ entry. same_pair entry.number entry.place number place) entries
+lists entries number place = list_any (λ entry. same_pair entry.number entry.place number place) entries
 
 -- what is listed when a number is listed with the place instead of the old one
 abbrev pub renumbered : List Entry → ℕ → ℤ → ℤ → ℤ → ℕ → Bool

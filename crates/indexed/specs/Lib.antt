@@ -1,3 +1,4 @@
 pub mod Index
 pub mod Numbers
 pub mod Tables
+pub mod Stored

@@ -1,13 +1,13 @@
--- What an indexed table means. Assumes nothing.
+-- What the rows of an indexed table mean as a store. Assumes nothing.
 use Rattle.std.specs.Prelude.{ℕ, ◌-◌, Bool, List, map, length, take, vec_items, slice_index_or, slice_set}
 use Rattle.labels.specs.Guards.{everything}
 use Rattle.rows.specs.declared.cells.Cells.{Cells}
 use Rattle.stores.specs.Tables.{Facet, Table, facet, no_row}
-use Rattle.indexed.specs.declared.tables.Indexed.{Indexed}
+use Rattle.indexed.specs.declared.tables.IndexedRows.{IndexedRows}
 
--- an indexed table keeps every choice, and its rows are those of its list
-abbrev pub indexed_table : {G : Type 0} → (G → ℕ → Bool) → Indexed G → Table
-indexed_table admitted table = record { keeps = everything; capacity = table.capacity; rows = map (facet admitted) (vec_items table.rows) }
+-- every choice is kept, and the rows are those of the list
+abbrev pub rows_table : {G : Type 0} → (G → ℕ → Bool) → IndexedRows G → Table
+rows_table admitted table = record { keeps = everything; capacity = table.capacity; rows = map (facet admitted) (vec_items table.rows) }
 
 -- the table, with these rows in place of its own
 abbrev pub with_rows : Table → List (Facet Cells) → Table

@@ -1,4 +1,4 @@
-// The indexed table: rows, with an index over column 0.
+// The indexed table: rows, with an index over column 0, and what they offer as a store.
 ghost use Rattle.std.specs.Prelude.{◌≡◌, ℕ, ◌≤◌, ℤ, vec_len, vec_capacity};
 ghost use Rattle.indexed.specs.Index.{lists};
 ghost use Rattle.indexed.specs.Numbers.{first_numbers, stands};
@@ -10,13 +10,14 @@ mod methods;
 mod store;
 
 pub use methods::MOST_ROWS;
+pub use store::Indexed;
 
 // The column that the index is over.
 pub const INDEXED_COLUMN: u32 = 0;
 
-// It keeps every choice. The index lists the number in column 0 of each row, with the row's place.
+// Rows with their index, which lists the number in column 0 of each row, with the row's place.
 #[derive(Drop)]
-pub struct Indexed<G> {
+pub(crate) struct IndexedRows<G> {
     rows: Vec<Row<G>>,
     index: Index,
     capacity: u32,

@@ -39,6 +39,13 @@ pub trait Guard: Copy {
     fn meet(self, other: Self) -> Self
         ensures { admitted result ≡ meet (admitted self) (admitted other) };
 
+    // The guard, for the choices at which the literal holds too.
+    fn narrowed(self, literal: Literal) -> Self
+        ensures { admitted result ≡ meet (admitted self) (literal_guard known literal) }
+    {
+        self.meet(Self::of_literal(literal))
+    }
+
     fn admits(self, choice: Choice) -> bool
         ensures { result ≡ admitted self choice.bits };
 

@@ -9,4 +9,4 @@ pub mod paths;
 pub use choices::Choice;
 pub use kinds::Guard;
 pub use literals::{Literal, Sign};
-pub use paths::Path;
+pub use paths::{MOST_LITERALS, Path};

@@ -1,5 +1,5 @@
 -- The numbers that policies take, and what is told of others. Assumes nothing.
-use Rattle.std.specs.Prelude.{ℕ, Bool, cond, ◌&&◌, ℤ, pos, negsuc, Ok, Err, Result, int_le}
+use Rattle.std.specs.Prelude.{◌≡◌, ℕ, Bool, cond, ◌&&◌, ℤ, pos, negsuc, Ok, Err, Result, MatchResult, int_le}
 use Rattle.faults.specs.declared.Fault.{Fault}
 use Rattle.faults.specs.declared.Refusal.{Refusal}
 use Rattle.faults.specs.declared.Refusal.TheVariants.{UnknownLabel, ViewerOutOfRange, DayOutOfRange}
@@ -38,3 +38,11 @@ policy_label = in_range 0 63 UnknownLabel
 abbrev pub then : {A B : Type 0} → Result A Fault → (A → Result B Fault) → Result B Fault
 then (Ok a) next = next a
 then (Err f) next = Err f
+
+-- the outcome is the one that the rule states: a value that is read as the rule's, or the rule's fault
+abbrev pub Gives : {A B : Type 0} → Result A Fault → (B → A) → Result B Fault → Type 0
+Gives rule read outcome = MatchResult outcome (λ value. rule ≡ Ok (read value)) (λ f. rule ≡ Err f)
+
+-- the outcome of a change is the one that the rule states: the new value is the rule's, or the rule's fault is told and nothing changed
+abbrev pub Becomes : {A : Type 0} → Result A Fault → A → A → Result (Unit {0}) Fault → Type 0
+Becomes rule old new outcome = MatchResult outcome (λ _. rule ≡ Ok new) (λ f. (rule ≡ Err f) × (new ≡ old))

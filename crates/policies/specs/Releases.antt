@@ -1,5 +1,5 @@
 -- The release policy: a release day for each label. Assumes nothing.
-use Rattle.std.specs.Prelude.{ℕ, Bool, true, false, cond, List, ℤ, Ok, Result, nat_le, slice_index_or, slice_set}
+use Rattle.std.specs.Prelude.{ℕ, Bool, List, ℤ, Some, None, Ok, Result, nat_le, unwrap_or, slice_index_or, slice_set}
 use Rattle.faults.specs.declared.Fault.{Fault}
 use Rattle.policies.specs.declared.releases.LabelRecord.{LabelRecord}
 use Rattle.policies.specs.Ranges.{release_day_number, policy_label, then}
@@ -10,11 +10,15 @@ never = 100000
 
 -- the record of a label that was never set
 abbrev pub unset : LabelRecord
-unset = record { day = never; set = false }
+unset = record { day = None }
+
+-- the record of a label whose day was set
+abbrev pub set_on : ℕ → LabelRecord
+set_on day = record { day = Some day }
 
 -- the release day that a record gives
 abbrev pub day_of : LabelRecord → ℕ
-day_of r = cond r.set r.day never
+day_of r = unwrap_or r.day never
 
 -- a label's release day
 abbrev pub release_day : List LabelRecord → ℕ → ℕ
@@ -26,4 +30,4 @@ released records label day = nat_le (release_day records label) day
 
 -- the records after a label's day was set; the day is checked first, then the label
 abbrev pub with_day : List LabelRecord → ℤ → ℤ → Result (List LabelRecord) Fault
-with_day records label day = then (release_day_number day) (λ d. then (policy_label label) (λ l. Ok (slice_set records l (record { day = d; set = true }))))
+with_day records label day = then (release_day_number day) (λ d. then (policy_label label) (λ l. Ok (slice_set records l (set_on d))))

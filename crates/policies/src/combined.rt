@@ -11,7 +11,7 @@ pub struct Either<A, B> {
 }
 
 impl<A: Policy, B: Policy> Policy for Either<A, B> {
-    ghost says = { λ p. either (A.Policy.says p.first) (B.Policy.says p.second) };
+    ghost says = { λ p. either (A.says p.first) (B.says p.second) };
 
     fn allows(&self, viewer: Viewer, label: u32, day: Day) -> bool {
         self.first.allows(viewer, label, day) || self.second.allows(viewer, label, day)

@@ -1,42 +1,45 @@
 // The partner policy: pairs of a viewer and a label that is open to that viewer on every day.
-ghost use Rattle.std.specs.Prelude.{◌≡◌, ◌≤◌, [], IfOk, Ok, Err, vec_len, vec_capacity, MatchResult};
-ghost use Rattle.policies.specs.Partners.{is_pair, listed, with_pair};
+ghost use Rattle.std.specs.Prelude.{◌≡◌, ◌≤◌, [], length, IfOk};
+ghost use Rattle.policies.specs.Ranges.{Becomes};
+ghost use Rattle.policies.specs.Partners.{pair, listed, with_pair};
 
 use crate::questions::Policy;
 use crate::ranges::{Day, Viewer, policy_label};
 use faults::{Fault, Refusal};
 use std::alloc::{AllocError, Global};
+use std::marker::Model;
 
 // How many pairs the list takes.
 pub const MOST_PAIRS: usize = 256;
 
-#[derive(Clone, Copy)]
+#[derive(Clone, Copy, PartialEq, Eq)]
 pub struct Pair {
     pub viewer: u32,
     pub label: u32,
-}
-
-impl Pair {
-    // Whether this is the pair of the viewer and the label.
-    fn is(self, viewer: u32, label: u32) -> bool
-        ensures { result ≡ is_pair self viewer label }
-    {
-        self.viewer == viewer && self.label == label
-    }
 }
 
 // The listed pairs, in memory that was got at the making.
 #[derive(Drop)]
 pub struct Partners {
     pairs: Vec<Pair>,
-    ghost few: { vec_len pairs ≤ 256 },
-    ghost reserved: { 256 ≤ vec_capacity pairs },
+}
+
+// A partner policy means its list of pairs.
+impl Model for Partners {
+    ghost use Rattle.std.specs.Prelude.{◌≤◌, List, vec_len, vec_capacity};
+    ghost use Rattle.policies.specs.declared.partners.Pair.{Pair};
+
+    ghost Value = { List Pair };
+
+    ghost view = { λ p. p.pairs.items };
+
+    ghost invariant = { λ p. (vec_len p.pairs ≤ 256) × (256 ≤ vec_capacity p.pairs) };
 }
 
 impl Partners {
     // No pair is listed.
     pub fn new(heap: Global) -> Result<Partners, AllocError>
-        ensures { IfOk result (λ p. p.pairs.items ≡ []) }
+        ensures { IfOk result (λ p. p ≡ []) }
     {
         Ok(Partners {
             pairs: Vec::with_capacity(heap, MOST_PAIRS)?,
@@ -44,39 +47,43 @@ impl Partners {
     }
 
     // Whether the pair is listed.
-    fn lists(&self, viewer: u32, label: u32) -> bool
-        ensures { result ≡ listed self.now.pairs.items viewer label }
+    fn lists(&self, pair: Pair) -> bool
+        ensures value { result ≡ listed self.now pair }
+        ensures few { length self.now ≤ 256 }
     {
-        let pairs = self.pairs.as_slice();
-        for pair in pairs {
-            if pair.is(viewer, label) {
-                return true;
-            }
-        }
-        false
+        self.pairs.contains(&pair)
     }
 
     // Lists the pair. One that is listed already is accepted, in a full list too.
     pub fn list(&mut self, viewer: i32, label: i32) -> Result<(), Fault>
-        ensures { MatchResult result (λ _. with_pair self.old.pairs.items viewer label ≡ Ok self.new.pairs.items) (λ f. (with_pair self.old.pairs.items viewer label ≡ Err f) × (self.new ≡ self.old)) }
+        ensures { Becomes (with_pair self.old viewer label) self.old self.new result }
     {
-        let viewer = Viewer::new(viewer)?.number;
-        let label = policy_label(label)?;
-        if self.lists(viewer, label) {
+        let pair = Pair {
+            viewer: Viewer::try_from(viewer)?.number,
+            label: policy_label(label)?,
+        };
+        if self.lists(pair) {
             return Ok(());
         }
         if self.pairs.len() >= MOST_PAIRS {
             return Err(Fault::new(Refusal::PartnersFull, MOST_PAIRS as u32));
         }
-        self.pairs.push_reserved(Pair { viewer, label });
+        self.pairs.push_reserved(pair);
         Ok(())
     }
 }
 
 impl Policy for Partners {
-    ghost says = { λ p viewer label day. listed p.pairs.items viewer label };
+    ghost says = { λ p viewer label day. listed p (pair viewer label) };
 
-    fn allows(&self, viewer: Viewer, label: u32, _day: Day) -> bool {
-        self.lists(viewer.number, label)
+    // At most 256 pairs are listed, however the list came to be.
+    fn allows(&self, viewer: Viewer, label: u32, _day: Day) -> bool
+        ensures value { result ≡ listed self.now (pair viewer.number label) }
+        ensures few { length self.now ≤ 256 }
+    {
+        self.lists(Pair {
+            viewer: viewer.number,
+            label,
+        })
     }
 }

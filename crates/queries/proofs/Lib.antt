@@ -1,3 +1,3 @@
-pub mod Formed
 pub mod Shown
+pub mod Told
 pub mod Worked

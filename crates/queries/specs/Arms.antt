@@ -1,20 +1,17 @@
 -- Queries: what an arm shows of a row, and what may be wrong with a query. Assumes nothing.
-use Rattle.std.specs.Prelude.{ℕ, suc, ◌+◌, Bool, true, cond, ◌&&◌, ltb, List, [], ◌∷◌, ◌++◌, map, length, take, replicate, ℤ, pos, Some, None, Option, nat_le, nat_lt}
+use Rattle.std.specs.Prelude.{ℕ, ◌+◌, Bool, true, ◌&&◌, List, ◌++◌, map, length, take, replicate, ℤ, pos, Option, nat_le, nat_lt}
+use Rattle.std.specs.List.{list_all}
 use Rattle.faults.specs.declared.Fault.{Fault}
-use Rattle.faults.specs.declared.Refusal.{Refusal}
 use Rattle.faults.specs.declared.Refusal.TheVariants.{CountOutOfLimits, TestOutOfForm, UnknownColumn}
 use Rattle.queries.specs.declared.arms.Arm.{Arm}
-use Rattle.queries.specs.declared.arms.Check.{Check}
-use Rattle.queries.specs.declared.arms.Check.TheVariants.{Counts, Form, Columns}
 use Rattle.queries.specs.declared.arms.Query.{Query}
 use Rattle.queries.specs.declared.arms.Source.{Source}
 use Rattle.queries.specs.declared.arms.Source.TheVariants.{Files, Readings, Joined}
 use Rattle.queries.specs.declared.nodes.Node.{Node}
 use Rattle.rows.specs.declared.cells.Cells.{Cells}
-use Rattle.faults.specs.Faults.{fault}
 use Rattle.rows.specs.Cells.{width}
-use Rattle.queries.specs.Tests.{number_in, is_counted, in_form, columns_within, unless, first_told}
-use Rattle.words.specs.Lists.{all}
+use Rattle.faults.specs.Faults.{unless, first_not, first_told}
+use Rattle.queries.specs.Tests.{number_in, is_counted, in_form, columns_within}
 
 -- an arm by what it asks: its source, the nodes of its test and the columns that it shows
 pub record Asked : Type 0 where
@@ -52,32 +49,15 @@ arm_in_form arm = in_form arm.test
 
 -- an arm names no column that its source does not have
 abbrev pub arm_within : Asked → Bool
-arm_within arm = joins_within arm.source && columns_within (source_width arm.source) arm.test && all (λ column. ltb column (source_width arm.source)) arm.shown
-
--- the first arm, counted from this number, that does not pass
-abbrev pub first_arm : (Asked → Bool) → Refusal → ℕ → List Asked → Option Fault
-first_arm ok refusal number [] = None
-first_arm ok refusal number (arm ∷ arms) = cond (ok arm) (first_arm ok refusal (suc number) arms) (Some (fault refusal number))
-
--- what each check asks of an arm
-abbrev pub asked_of : Check → Asked → Bool
-asked_of Counts = arm_counted
-asked_of Form = arm_in_form
-asked_of Columns = arm_within
-
--- what each check tells of an arm that does not pass
-abbrev pub told_by : Check → Refusal
-told_by Counts = CountOutOfLimits
-told_by Form = TestOutOfForm
-told_by Columns = UnknownColumn
+arm_within arm = joins_within arm.source && columns_within (source_width arm.source) arm.test && list_all (λ column. nat_lt column (source_width arm.source)) arm.shown
 
 -- what is wrong with a query: the number of its arms, then the counts of an arm, then the form of a test, then a column
 abbrev pub query_fault : List Asked → Option Fault
 query_fault arms =
     first_told (unless (nat_le 1 (length arms) && nat_le (length arms) 4) CountOutOfLimits 0)
-    (first_told (first_arm arm_counted CountOutOfLimits 0 arms)
-    (first_told (first_arm arm_in_form TestOutOfForm 0 arms)
-    (first_arm arm_within UnknownColumn 0 arms)))
+    (first_told (first_not arm_counted CountOutOfLimits arms)
+    (first_told (first_not arm_in_form TestOutOfForm arms)
+    (first_not arm_within UnknownColumn arms)))
 
 -- the shown cells in order, and zeros behind them
 abbrev pub shown_cells : List ℕ → List ℤ → Cells

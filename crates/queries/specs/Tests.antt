@@ -1,20 +1,19 @@
 -- Tests of rows: what a test is true of, and when it is in form. Assumes nothing.
-use Rattle.std.specs.Prelude.{◌≡◌, ℕ, suc, ◌-◌, ◌<◌, Bool, true, false, cond, not, ◌&&◌, ◌||◌, List, [], ◌∷◌, ◌++◌, length, ℤ, pos, Some, None, Ok, Err, Option, Result, int_lt, nat_le, nat_lt, slice_index_or}
+use Rattle.std.specs.Prelude.{◌≡◌, ℕ, ◌-◌, ◌<◌, Bool, true, false, not, ◌&&◌, ◌||◌, List, [], ◌∷◌, ◌++◌, length, ℤ, pos, Option, int_lt, nat_le, nat_lt, slice_index_or}
+use Rattle.std.specs.List.{enumerate_from, list_all}
+use Rattle.std.specs.declared.cmp.Ordering.{Ordering}
+use Rattle.std.specs.declared.cmp.Ordering.TheVariants.{Less, Equal, Greater}
 use Rattle.faults.specs.declared.Fault.{Fault}
-use Rattle.faults.specs.declared.Refusal.{Refusal}
 use Rattle.faults.specs.declared.Refusal.TheVariants.{CountOutOfLimits, TestOutOfForm}
-use Rattle.queries.specs.declared.nodes.Comparison.{Comparison}
-use Rattle.queries.specs.declared.nodes.Comparison.TheVariants.{Less, Equal, Greater}
 use Rattle.queries.specs.declared.nodes.Node.{Node}
 use Rattle.queries.specs.declared.nodes.Node.TheVariants.{Always, Compare, Not, And, Or}
-use Rattle.faults.specs.Faults.{fault}
-use Rattle.rows.specs.Cells.{same_number}
-use Rattle.words.specs.Lists.{all}
+use Rattle.faults.specs.Faults.{unless, first_told}
+use Rattle.std.specs.Ordering.{int_eq}
 
--- the comparison holds of the two numbers
-abbrev pub compares : Comparison → ℤ → ℤ → Bool
+-- the two numbers compare in this way
+abbrev pub compares : Ordering → ℤ → ℤ → Bool
 compares Less a b = int_lt a b
-compares Equal a b = same_number a b
+compares Equal a b = int_eq a b
 compares Greater a b = int_lt b a
 
 -- the number in a column of a row or of two joined rows
@@ -24,7 +23,7 @@ number_in cells column = slice_index_or cells column (pos 0)
 -- the truth of a node, by the truth of the nodes before it
 abbrev pub node_truth : Node → List Bool → List ℤ → Bool
 node_truth Always earlier cells = true
-node_truth (Compare column comparison number) earlier cells = compares comparison (number_in cells column) number
+node_truth (Compare column ordering number) earlier cells = compares ordering (number_in cells column) number
 node_truth (Not a) earlier cells = not (slice_index_or earlier a false)
 node_truth (And a b) earlier cells = slice_index_or earlier a false && slice_index_or earlier b false
 node_truth (Or a b) earlier cells = slice_index_or earlier a false || slice_index_or earlier b false
@@ -49,19 +48,14 @@ passes nodes cells = is_counted nodes && slice_index_or (truths nodes cells) (le
 -- a node rests on nodes of lower number alone
 abbrev pub rests_below : ℕ → Node → Bool
 rests_below number Always = true
-rests_below number (Compare column comparison n) = true
+rests_below number (Compare column ordering n) = true
 rests_below number (Not a) = nat_lt a number
 rests_below number (And a b) = nat_lt a number && nat_lt b number
 rests_below number (Or a b) = nat_lt a number && nat_lt b number
 
--- each node, the first having this number, rests on nodes of lower number
-abbrev pub in_form_from : ℕ → List Node → Bool
-in_form_from number [] = true
-in_form_from number (node ∷ nodes) = rests_below number node && in_form_from (suc number) nodes
-
 -- a test is in form if each node rests on nodes of lower number
 abbrev pub in_form : List Node → Bool
-in_form nodes = in_form_from 0 nodes
+in_form nodes = list_all (λ (number, node). rests_below number node) (enumerate_from 0 nodes)
 
 -- the truth of each node of a test in form is that of its words on the truths of the nodes that it rests on
 abbrev pub WorkedOut : List Node → List ℤ → Type 0
@@ -71,28 +65,14 @@ WorkedOut nodes cells =
 -- the node looks at no column from `width` up
 abbrev pub column_within : ℕ → Node → Bool
 column_within width Always = true
-column_within width (Compare column comparison number) = nat_lt column width
+column_within width (Compare column ordering number) = nat_lt column width
 column_within width (Not a) = true
 column_within width (And a b) = true
 column_within width (Or a b) = true
 
 -- the test looks at no column from `width` up
 abbrev pub columns_within : ℕ → List Node → Bool
-columns_within width nodes = all (column_within width) nodes
-
--- nothing is told where the test passes, else the refusal at the place
-abbrev pub unless : Bool → Refusal → ℕ → Option Fault
-unless ok refusal place = cond ok None (Some (fault refusal place))
-
--- the first that is told
-abbrev pub first_told : Option Fault → Option Fault → Option Fault
-first_told (Some told) later = Some told
-first_told None later = later
-
--- a call answers what is told
-abbrev pub answered : Option Fault → Result (Unit {0}) Fault
-answered None = Ok tt
-answered (Some told) = Err told
+columns_within width nodes = list_all (column_within width) nodes
 
 -- what is wrong with the number of a test's nodes, and then with their form
 abbrev pub test_fault : List Node → Option Fault

@@ -1,13 +1,15 @@
 // Queries: arms, each with a source of rows, a test and the columns to show.
-ghost use Rattle.std.specs.Prelude.{◌≡◌, ◌≤◌, ◌&&◌, length, nat_le, nat_lt};
-ghost use Rattle.words.specs.Lists.{all};
-ghost use Rattle.queries.specs.Arms.{source_width, joins_within, arm_of, arm_counted, arm_in_form, arm_within, shown_cells, query_of, asked_of, told_by, first_arm, query_fault};
-ghost use Rattle.queries.specs.Tests.{answered};
+ghost use Rattle.std.specs.Prelude.{◌≡◌, ◌&&◌, map, length, pos, nat_le, nat_lt, slice_index_or};
+ghost use Rattle.std.specs.List.{list_all};
+ghost use Rattle.queries.specs.Arms.{source_width, joins_within, arm_of, arm_counted, arm_in_form, arm_within, shown_cells, query_of, query_fault};
+ghost use Rattle.faults.specs.Faults.{answered};
+ghost use Rattle.queries.specs.Tests.{number_in};
 
-use crate::checks::{is_between, refuse_unless};
-use crate::nodes::{Test, number_in};
-use faults::{Fault, Refusal};
+use crate::checks::refuse_first;
+use crate::nodes::{Test, item_or};
+use faults::{Fault, Refusal, refuse_unless};
 use rows::{Cells, WIDTH};
+use std::array;
 
 // How many columns a row has.
 const COLUMNS: u32 = WIDTH as u32;
@@ -48,17 +50,13 @@ impl Source {
 
 // Whether each column is below the width.
 fn all_below(columns: &[u32], width: u32) -> bool
-    ensures { result ≡ all (λ column. nat_lt column width) columns.now }
+    ensures { result ≡ list_all (λ column. nat_lt column width) columns.now }
 {
-    for column in columns {
-        if *column >= width {
-            return false;
-        }
-    }
-    true
+    columns.iter().all(|&column| column < width)
 }
 
-// One arm of a query.
+// One arm of a query. A `Copy` struct with a lifetime can have no model, so the clauses say what it
+// asks by `arm_of`.
 #[derive(Clone, Copy)]
 pub struct Arm<'a> {
     pub source: Source,
@@ -71,7 +69,7 @@ impl Arm<'_> {
     pub fn is_counted(&self) -> bool
         ensures { result ≡ arm_counted (arm_of self.now) }
     {
-        self.test.is_counted() && is_between(self.shown.len(), 1, WIDTH)
+        self.test.is_counted() && (1..=WIDTH).contains(&self.shown.len())
     }
 
     // Whether the test is in form.
@@ -91,52 +89,28 @@ impl Arm<'_> {
             && all_below(self.shown, width)
     }
 
+    // The cell that is shown at a place: the number in the column that is named there, and 0 where
+    // none is.
+    fn shown_cell(&self, cells: &[i32], place: usize) -> i32
+        ensures { result ≡ slice_index_or (map (number_in cells.now) self.now.shown.now) place (pos 0) }
+    {
+        self.shown
+            .get(place)
+            .map_or(0, |&column| item_or(cells, column, 0))
+    }
+
     // The cells of the shown columns in order, and zeros behind them. Only the first six columns
     // count.
     pub fn shown_cells(&self, cells: &[i32]) -> Cells
         ensures { result ≡ shown_cells self.now.shown.now cells.now }
     {
-        let mut values = [0; WIDTH];
-        for place in 0..self.shown.len().min(WIDTH) {
-            values[place] = number_in(cells, self.shown[place]);
-        }
+        let values = array::from_fn(|place| self.shown_cell(cells, place));
         Cells { values }
     }
 }
 
-// What is asked of each arm of a query.
-#[derive(Clone, Copy)]
-enum Check {
-    Counts,
-    Form,
-    Columns,
-}
-
-impl Check {
-    // Whether the arm passes.
-    fn passes(self, arm: &Arm) -> bool
-        ensures { result ≡ asked_of self (arm_of arm.now) }
-    {
-        match self {
-            Check::Counts => arm.is_counted(),
-            Check::Form => arm.is_in_form(),
-            Check::Columns => arm.is_within(),
-        }
-    }
-
-    // What is told of an arm that does not pass.
-    fn refusal(self) -> Refusal
-        ensures { result ≡ told_by self }
-    {
-        match self {
-            Check::Counts => Refusal::CountOutOfLimits,
-            Check::Form => Refusal::TestOutOfForm,
-            Check::Columns => Refusal::UnknownColumn,
-        }
-    }
-}
-
-// A query answers with the rows of all of its arms.
+// A query answers with the rows of all of its arms. The clauses say what it asks by `query_of`, for
+// the same reason as at `Arm`.
 #[derive(Clone, Copy)]
 pub struct Query<'a> {
     pub arms: &'a [Arm<'a>],
@@ -150,28 +124,15 @@ impl Query<'_> {
         ensures { result ≡ answered (query_fault (query_of self.now)) }
     {
         refuse_unless(self.is_counted(), Refusal::CountOutOfLimits, 0)?;
-        self.check_arms(Check::Counts)?;
-        self.check_arms(Check::Form)?;
-        self.check_arms(Check::Columns)
+        refuse_first(self.arms, Refusal::CountOutOfLimits, |arm| arm.is_counted())?;
+        refuse_first(self.arms, Refusal::TestOutOfForm, |arm| arm.is_in_form())?;
+        refuse_first(self.arms, Refusal::UnknownColumn, |arm| arm.is_within())
     }
 
     // Whether the query has 1 to 4 arms.
     fn is_counted(&self) -> bool
         ensures { result ≡ (nat_le 1 (length (query_of self.now)) && nat_le (length (query_of self.now)) 4) }
     {
-        is_between(self.arms.len(), 1, MOST_ARMS)
-    }
-
-    // Tells the first arm that does not pass the check, by its number.
-    fn check_arms(&self, check: Check) -> Result<(), Fault>
-        requires { length (query_of self.now) ≤ 4 }
-        ensures { result ≡ answered (first_arm (asked_of check) (told_by check) 0 (query_of self.now)) }
-    {
-        for (number, arm) in self.arms.iter().enumerate() {
-            if !check.passes(arm) {
-                return Err(Fault::new(check.refusal(), number as u32));
-            }
-        }
-        Ok(())
+        (1..=MOST_ARMS).contains(&self.arms.len())
     }
 }

@@ -6,4 +6,4 @@ mod checks;
 pub mod nodes;
 
 pub use arms::{Arm, MOST_ARMS, Query, Source};
-pub use nodes::{Comparison, MOST_NODES, Node, Test};
+pub use nodes::{MOST_NODES, Node, Test};

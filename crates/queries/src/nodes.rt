@@ -1,60 +1,26 @@
 // Tests of rows: nodes that rest on earlier ones. The last node decides.
-ghost use Rattle.std.specs.Prelude.{◌≡◌, ◌-◌, ◌≤◌, false, length, nat_lt, slice_index_or};
-ghost use Rattle.rows.specs.Cells.{same_number};
-ghost use Rattle.queries.specs.Tests.{compares, number_in, node_truth, passes, rests_below, WorkedOut, is_counted, in_form, column_within, columns_within, answered, test_fault};
+ghost use Rattle.std.specs.Prelude.{◌≡◌, ◌-◌, ◌≤◌, length, nat_lt, slice_index_or};
+ghost use Rattle.faults.specs.Faults.{answered};
+ghost use Rattle.queries.specs.Tests.{compares, node_truth, passes, rests_below, WorkedOut, is_counted, in_form, column_within, columns_within, test_fault};
 
-use crate::checks::{is_between, refuse_unless};
-use faults::{Fault, Refusal};
+use faults::{Fault, Refusal, refuse_unless};
+use std::cmp::Ordering;
 
 // How many nodes a test has at most.
 pub const MOST_NODES: usize = 15;
 
-// How a cell is compared with a number.
-#[derive(Clone, Copy)]
-pub enum Comparison {
-    Less,
-    Equal,
-    Greater,
-}
-
-// Whether the two numbers are the same.
-fn is_same(a: i32, b: i32) -> bool
-    ensures { result ≡ same_number a b }
+// Whether the two numbers compare in this way.
+fn compares(ordering: Ordering, a: i32, b: i32) -> bool
+    ensures { result ≡ compares ordering a b }
 {
-    a == b
+    a.cmp(&b) == ordering
 }
 
-impl Comparison {
-    // Whether the comparison holds of the two numbers.
-    pub fn holds(self, a: i32, b: i32) -> bool
-        ensures { result ≡ compares self a b }
-    {
-        match self {
-            Comparison::Less => a < b,
-            Comparison::Equal => is_same(a, b),
-            Comparison::Greater => a > b,
-        }
-    }
-}
-
-// The number in the column, and 0 where there is none.
-pub(crate) fn number_in(cells: &[i32], column: u32) -> i32
-    ensures { result ≡ number_in cells.now column }
+// The item at the place, or what stands for one where there is none.
+pub(crate) fn item_or<T: Copy>(items: &[T], place: u32, absent: T) -> T
+    ensures { result ≡ slice_index_or items.now place absent }
 {
-    let column = column as usize;
-    if column < cells.len() {
-        cells[column]
-    } else {
-        0
-    }
-}
-
-// Whether the node of this number is true. A node that has no truth yet is not.
-fn is_true(truths: &[bool], number: u32) -> bool
-    ensures { result ≡ slice_index_or truths.now number false }
-{
-    let number = number as usize;
-    number < truths.len() && truths[number]
+    items.get(place as usize).copied().unwrap_or(absent)
 }
 
 // Whether the number comes before the place.
@@ -64,49 +30,43 @@ fn is_before(number: u32, place: usize) -> bool
     (number as usize) < place
 }
 
-// One node of a test: always true, a column compared with a number, or a word on the nodes of the
-// given numbers.
+// One node of a test: always true, true where the cell of a column is less than, equal to or greater
+// than a number, or a word on the nodes of the given numbers.
 #[derive(Clone, Copy)]
 pub enum Node {
     Always,
-    Compare(u32, Comparison, i32),
+    Compare(u32, Ordering, i32),
     Not(u32),
     And(u32, u32),
     Or(u32, u32),
 }
 
 impl Node {
-    // Whether the node is true of the cells, given the truth of the nodes before it.
+    // Whether the node is true of the cells, given the truth of the nodes before it. A cell that is not
+    // there is 0, and a node that has no truth yet is not true.
     pub fn truth(self, earlier: &[bool], cells: &[i32]) -> bool
         ensures { result ≡ node_truth self earlier.now cells.now }
     {
         match self {
             Node::Always => true,
-            Node::Compare(column, comparison, number) => {
-                comparison.holds(number_in(cells, column), number)
+            Node::Compare(column, ordering, number) => {
+                compares(ordering, item_or(cells, column, 0), number)
             }
-            Node::Not(a) => !is_true(earlier, a),
-            Node::And(a, b) => is_true(earlier, a) && is_true(earlier, b),
-            Node::Or(a, b) => is_true(earlier, a) || is_true(earlier, b),
-        }
-    }
-
-    // Whether the node rests only on nodes that come before the place.
-    fn rests_before(self, place: usize) -> bool
-        ensures { result ≡ rests_below place self }
-    {
-        match self {
-            Node::Always | Node::Compare(_, _, _) => true,
-            Node::Not(a) => is_before(a, place),
-            Node::And(a, b) | Node::Or(a, b) => is_before(a, place) && is_before(b, place),
+            Node::Not(a) => !item_or(earlier, a, false),
+            Node::And(a, b) => item_or(earlier, a, false) && item_or(earlier, b, false),
+            Node::Or(a, b) => item_or(earlier, a, false) || item_or(earlier, b, false),
         }
     }
 
     // Whether the node rests only on nodes with a lower number than its own.
-    pub fn rests_below(self, number: u32) -> bool
+    pub fn rests_below(self, number: usize) -> bool
         ensures { result ≡ rests_below number self }
     {
-        self.rests_before(number as usize)
+        match self {
+            Node::Always | Node::Compare(_, _, _) => true,
+            Node::Not(a) => is_before(a, number),
+            Node::And(a, b) | Node::Or(a, b) => is_before(a, number) && is_before(b, number),
+        }
     }
 
     // Whether the node looks at no column from `width` up.
@@ -120,7 +80,8 @@ impl Node {
     }
 }
 
-// A test is its nodes, by number.
+// A test is its nodes, by number. A `Copy` struct with a lifetime can have no model, so the clauses
+// name its field, as `self.now.nodes.now`.
 #[derive(Clone, Copy)]
 pub struct Test<'a> {
     pub nodes: &'a [Node],
@@ -131,31 +92,24 @@ impl Test<'_> {
     pub fn is_counted(&self) -> bool
         ensures { result ≡ is_counted self.now.nodes.now }
     {
-        is_between(self.nodes.len(), 1, MOST_NODES)
+        (1..=MOST_NODES).contains(&self.nodes.len())
     }
 
     // Whether each node rests only on nodes with a lower number.
     pub fn is_in_form(&self) -> bool
         ensures { result ≡ in_form self.now.nodes.now }
     {
-        for (number, node) in self.nodes.iter().enumerate() {
-            if !node.rests_before(number) {
-                return false;
-            }
-        }
-        true
+        self.nodes
+            .iter()
+            .enumerate()
+            .all(|(number, node)| node.rests_below(number))
     }
 
     // Whether the test looks at no column from `width` up.
     pub fn columns_within(&self, width: u32) -> bool
         ensures { result ≡ columns_within width self.now.nodes.now }
     {
-        for node in self.nodes {
-            if !node.column_within(width) {
-                return false;
-            }
-        }
-        true
+        self.nodes.iter().all(|node| node.column_within(width))
     }
 
     // The number of the last node, which decides.
@@ -175,9 +129,10 @@ impl Test<'_> {
         if !self.is_counted() {
             return false;
         }
+        // An array, since a row is tested with no heap; and a loop, since each turn reads the truths before it.
         let mut truths = [false; MOST_NODES];
         for (number, node) in self.nodes.iter().enumerate() {
-            truths[number] = node.truth(&truths[0..number], cells);
+            truths[number] = node.truth(&truths[..number], cells);
         }
         truths[self.root()]
     }

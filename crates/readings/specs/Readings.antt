@@ -3,6 +3,7 @@ use Rattle.std.specs.Prelude.{ℕ, Bool, cond, List, ◌++◌, ℤ, negsuc, Ok, 
 use Rattle.std.specs.Fmt.{signed_decimal}
 use Rattle.faults.specs.declared.Fault.{Fault}
 use Rattle.policies.specs.Ranges.{viewer_number, day_number, then}
+use Rattle.readings.specs.declared.Reading.{Reading}
 use Rattle.readings.specs.declared.Shown.{Shown}
 use Rattle.readings.specs.declared.Shown.TheVariants.{Measured, StandIn, Nothing}
 
@@ -16,9 +17,9 @@ shown_text (Measured value) = codes "the tool's value " ++ signed_decimal value
 shown_text (StandIn value) = codes "the stand-in " ++ signed_decimal value
 shown_text Nothing = codes "nothing"
 
--- what a choice is shown of two facets, each with the choices that it is for: the first that admits it
-abbrev pub shown_at : (ℕ → Bool) → ℤ → (ℕ → Bool) → ℤ → ℕ → Shown
-shown_at measured value stand_in other choice = cond (measured choice) (Measured value) (cond (stand_in choice) (StandIn other) Nothing)
+-- what a choice is shown of a reading, by the choices that each guard admits: the first facet whose guard admits it
+abbrev pub shown_at : {G : Type 0} → (G → ℕ → Bool) → Reading G → ℕ → Shown
+shown_at admitted reading choice = cond (admitted reading.measured.guard choice) (Measured reading.measured.value) (cond (admitted reading.stand_in.guard choice) (StandIn reading.stand_in.value) Nothing)
 
 -- what a viewer is shown of a confidential reading on a day: the tool's value if the policy says yes to the label, and the null
 -- if not; nothing, where the label is not known

@@ -14,7 +14,8 @@ use std::fmt;
 // The value of a reading that was not taken.
 pub const NULL: i32 = -999_250;
 
-// A value, and the guard that says for which choices it is.
+// A value, and the guard that says for which choices it is. Not a row: a reading holds one number, and knows no
+// rows.
 #[derive(Clone, Copy)]
 pub struct Facet<G> {
     pub guard: G,
@@ -28,7 +29,7 @@ pub struct Reading<G> {
     pub stand_in: Facet<G>,
 }
 
-// The facet that was shown.
+// The facet that was shown. That none was is a case here and no None, since what was shown is printed whole.
 #[derive(Clone, Copy)]
 pub enum Shown {
     Measured(i32),
@@ -56,19 +57,17 @@ impl<G: Guard> Reading<G> {
         ensures other_guard { G.admitted result.stand_in.guard ≡ literal_guard G.known (minus label) }
         ensures other_value { result.stand_in.value ≡ null }
     {
+        let with_label = Literal {
+            sign: Sign::Plus,
+            label,
+        };
         Reading {
             measured: Facet {
-                guard: G::of_literal(Literal {
-                    sign: Sign::Plus,
-                    label,
-                }),
+                guard: G::of_literal(with_label),
                 value,
             },
             stand_in: Facet {
-                guard: G::of_literal(Literal {
-                    sign: Sign::Minus,
-                    label,
-                }),
+                guard: G::of_literal(with_label.opposite()),
                 value: NULL,
             },
         }
@@ -76,7 +75,7 @@ impl<G: Guard> Reading<G> {
 
     // The facet that the pass is shown. The pass is used up.
     pub fn shown(&self, pass: Pass<G>) -> Shown
-        ensures { result ≡ shown_at (G.admitted self.now.measured.guard) self.now.measured.value (G.admitted self.now.stand_in.guard) self.now.stand_in.value pass.choice.bits }
+        ensures { result ≡ shown_at G.admitted self.now pass.bits }
     {
         let choice = pass.spend();
         if self.measured.guard.admits(choice) {

@@ -1,9 +1,11 @@
 -- What a change of the memory makes of a list's entries. Assumes nothing.
-use Rattle.std.proofs.Common.{◌≡◌, ℕ, suc, ◌+◌, ◌-◌, ◌<◌, ◌≤◌, min, List, [], ◌∷◌, ◌++◌, length, get_or, take, drop, set, sym, refl, ap, ◌∙◌, ap₂, add-one, arith, length-append, length-drop, length-take-le}
-use Rattle.std.proofs.lemmas.List.{append_assoc, take_at, take-append-drop, take-take, take_more, drop_more, drop-take, set_split, set-append_left, set_at, length-set, length_push, get_or-drop, get_or-append_right}
-use Rattle.std.specs.List.{remove}
+use Rattle.std.proofs.Common.{◌≡◌, ℕ, suc, ◌+◌, ◌-◌, ◌<◌, ◌≤◌, Bool, true, false, cond, ltb, Ok, Err, min, List, [], ◌∷◌, ◌++◌, length, take, drop, set, sym, refl, ap, ◌∙◌, ap₂, add-one, arith, length-append, length-drop, length-take-le}
+use Rattle.std.proofs.lemmas.Bool.{ltb-true, ltb-false}
+use Rattle.std.proofs.lemmas.List.{append_assoc, take_at, take-append-drop, take-take, drop-take, set_split, set-append_left, length-set, length_push}
+use Rattle.std.proofs.lemmas.List.Edits.{length-remove}
+use Rattle.std.specs.List.{copy_within, remove}
 use Rattle.rows.specs.declared.lists.List as borrowed
-use Rattle.rows.specs.Lists.{memory, most, entries, NowHas, closed}
+use Rattle.rows.specs.Lists.{memory, most, entries, room_for, NowHas}
 
 module _ {E : Type 0} where
   -- how many entries there are
@@ -12,9 +14,6 @@ module _ {E : Type 0} where
 
   pub few_entries : (list : borrowed.List E) → length (entries list) ≤ most list
   few_entries list = omega (arith, entries_length list)
-
-  pub entries_within : (list : borrowed.List E) → length (entries list) ≤ length (memory list)
-  entries_within list = omega (arith, entries_length list)
 
   -- the entries are known by what the memory has become
   pub now_has : (before after : borrowed.List E) (zs : List E) → min after.count (most before) ≡ length zs → memory after ≡ zs ++ drop (length zs) (memory before) → after.slots.ghost_name ≡ before.slots.ghost_name → NowHas before after zs
@@ -44,48 +43,30 @@ module _ {E : Type 0} where
       ∙ ap (λ k. set (take n xs) p e ++ drop k xs) (sym long)
 
   -- one entry less: those behind it have moved up
-  pub closed_up : (xs : List E) (n p : ℕ) → n ≤ length xs → p < n → closed xs p (n - 1) ≡ remove (take n xs) p ++ drop (length (remove (take n xs) p)) xs
+  pub closed_up : (xs : List E) (n p : ℕ) → n ≤ length xs → p < n → copy_within xs (p + 1) n p ≡ remove (take n xs) p ++ drop (length (remove (take n xs) p)) xs
   closed_up xs n p within below =
-      let m : ℕ = n - 1 - p in
+      let m : ℕ = n - (p + 1) in
       let split : n ≡ suc p + m = omega arith in
       let front : take p (take n xs) ≡ take p xs = take-take p n xs (omega arith) in
       let back : drop (suc p) (take n xs) ≡ take m (drop (suc p) xs) = ap (λ k. drop (suc p) (take k xs)) split ∙ drop-take (suc p) m xs in
       let whole : remove (take n xs) p ≡ take p xs ++ take m (drop (suc p) xs) = ap₂ ◌++◌ front back in
-      let long : length (remove (take n xs) p) ≡ n - 1 = ap length whole ∙ length-append (take p xs) (take m (drop (suc p) xs)) ∙ ap₂ ◌+◌ (length-take-le p xs (omega arith)) (length-take-le m (drop (suc p) xs) (omega (arith, length-drop (suc p) xs))) ∙ omega arith in
-      sym (append_assoc (take p xs) (take m (drop (suc p) xs)) (drop (n - 1) xs)) ∙ ap₂ (λ ys k. ys ++ drop k xs) (sym whole) (sym long)
+      let long : length (remove (take n xs) p) ≡ p + m = omega (arith, length-remove (take n xs) p (omega (arith, length-take-le n xs within)), length-take-le n xs within) in
+      ap (λ k. (take p xs ++ take m (drop k xs)) ++ drop (p + m) xs) (add-one p)
+      ∙ ap₂ (λ ys k. ys ++ drop k xs) (sym whole) (sym long)
 
-  -- the loop that closes a gap, as it begins and one turn on
-  pub closed_none : (xs : List E) (p : ℕ) → xs ≡ closed xs p p
-  closed_none xs p =
-      let none : 0 ≡ p - p = omega arith in
-      sym (take-append-drop p xs) ∙ ap (λ k. take p xs ++ (take k (drop (suc p) xs) ++ drop p xs)) none
-
-  pub closed_more : (xs ys : List E) (p at : ℕ) (e : E) → p ≤ at → at + 1 < length xs → ys ≡ closed xs p at → e ≡ get_or ys (at + 1) e → set ys at e ≡ closed xs p (at + 1)
-  closed_more xs ys p at e from within before read =
-      ap (λ zs. set zs at e) (before ∙ sym (append_assoc front mid (drop at xs)) ∙ ap (λ zs. (front ++ mid) ++ zs) (drop_more xs at e (omega arith)))
-      ∙ set_at (front ++ mid) (get_or xs at e) (drop (at + 1) xs) e at long
-      ∙ append_assoc front mid (e ∷ drop (at + 1) xs)
-      ∙ ap (front ++◌) (sym (append_assoc mid (e ∷ []) (drop (at + 1) xs)) ∙ ap (λ zs. zs ++ drop (at + 1) xs) (sym longer))
+module _ {E : Type 0} (list : borrowed.List E) (entry : E) where
+  -- an entry was taken, so there was room for it
+  pub had_room : Ok tt ≡ room_for list entry → length (entries list) < most list
+  had_room told = go (ltb (length (entries list)) (most list)) refl told
     where
-      front : List E
-      front = take p xs
+      go : (b : Bool) → ltb (length (entries list)) (most list) ≡ b → Ok (tt {0}) ≡ cond b (Ok (tt {0})) (Err entry) → length (entries list) < most list
+      go true e _ = ltb-true (length (entries list)) (most list) e
+      go false _ told = absurd (let z : ◌≡◌ {A = ℕ} 0 1 = cc in omega arith)
 
-      mid : List E
-      mid = take (at - p) (drop (suc p) xs)
-
-      long : length (front ++ mid) ≡ at
-      long = length-append front mid ∙ ap₂ ◌+◌ (length-take-le p xs (omega arith)) (length-take-le (at - p) (drop (suc p) xs) (omega (arith, length-drop (suc p) xs))) ∙ omega arith
-
-      next : e ≡ get_or xs (at + 1) e
-      next =
-          read
-          ∙ ap (λ zs. get_or zs (at + 1) e) (before ∙ sym (append_assoc front mid (drop at xs)))
-          ∙ get_or-append_right (front ++ mid) (drop at xs) at (at + 1) e long (omega arith)
-          ∙ get_or-drop at xs (at + 1 - at) e
-          ∙ ap (λ k. get_or xs k e) (omega arith)
-
-      longer : take (at + 1 - p) (drop (suc p) xs) ≡ mid ++ e ∷ []
-      longer =
-          ap (λ k. take k (drop (suc p) xs)) (omega arith)
-          ∙ take_more (drop (suc p) xs) (at - p) e (omega (arith, length-drop (suc p) xs))
-          ∙ ap (λ z. mid ++ z ∷ []) (get_or-drop (suc p) xs (at - p) e ∙ ap (λ k. get_or xs k e) (omega arith) ∙ sym next)
+  -- an entry was given back, so there was none
+  pub had_no_room : (back : E) → Err back ≡ room_for list entry → most list ≤ length (entries list)
+  had_no_room back told = go (ltb (length (entries list)) (most list)) refl told
+    where
+      go : (b : Bool) → ltb (length (entries list)) (most list) ≡ b → Err back ≡ cond b (Ok (tt {0})) (Err entry) → most list ≤ length (entries list)
+      go true _ told = absurd (let z : ◌≡◌ {A = ℕ} 0 1 = cc in omega arith)
+      go false e _ = ltb-false (length (entries list)) (most list) e

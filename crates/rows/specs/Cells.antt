@@ -1,17 +1,11 @@
 -- Cells: the numbers of a row, by column. Assumes nothing.
-use Rattle.std.specs.Prelude.{ℕ, Bool, false, ◌&&◌, replicate, ℤ, pos, negsuc, ◌==◌, nat_lt, slice_index_or, slice_set}
+use Rattle.std.specs.Prelude.{ℕ, Bool, ◌&&◌, replicate, ℤ, pos, nat_lt, slice_index_or, slice_set}
+use Rattle.std.specs.Ordering.{int_eq}
 use Rattle.rows.specs.declared.cells.Cells.{Cells}
 
 -- how many cells a row has
 abbrev pub width : ℕ
 width = 6
-
--- the two numbers are the same
-abbrev pub same_number : ℤ → ℤ → Bool
-same_number (pos a) (pos b) = a == b
-same_number (pos a) (negsuc b) = false
-same_number (negsuc a) (pos b) = false
-same_number (negsuc a) (negsuc b) = a == b
 
 -- the cells that are all 0
 abbrev pub zeros : Cells
@@ -23,7 +17,7 @@ cell column cells = slice_index_or cells.values column (pos 0)
 
 -- the cell in the column is this number; past the last column there is no cell
 abbrev pub cell_is : ℕ → ℤ → Cells → Bool
-cell_is column number cells = nat_lt column width && same_number (cell column cells) number
+cell_is column number cells = nat_lt column width && int_eq (cell column cells) number
 
 -- the cells with another number in one column; past the last column there is nothing to change
 abbrev pub with_cell : ℕ → ℤ → Cells → Cells

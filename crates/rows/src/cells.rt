@@ -1,6 +1,6 @@
 // Rows: the cells of a log row, and such a row with its guard.
 ghost use Rattle.std.specs.Prelude.{◌≡◌};
-ghost use Rattle.rows.specs.Cells.{same_number, cell_is, with_cell, zeros};
+ghost use Rattle.rows.specs.Cells.{cell_is, with_cell, zeros};
 
 // How many cells a row has, one for each column.
 pub const WIDTH: usize = 6;
@@ -11,13 +11,8 @@ pub struct Cells {
     pub values: [i32; WIDTH],
 }
 
-// Whether the two numbers are the same.
-fn is_same(a: i32, b: i32) -> bool
-    ensures { result ≡ same_number a b }
-{
-    a == b
-}
-
+// Column and number are two values, and no struct of the two: callers have them apart, and would make one
+// for the call alone.
 impl Cells {
     // Every cell is 0.
     pub fn zeros() -> Cells
@@ -30,20 +25,18 @@ impl Cells {
     pub fn has(&self, column: u32, number: i32) -> bool
         ensures { result ≡ cell_is column number self.now }
     {
-        let column = column as usize;
-        column < WIDTH && is_same(self.values[column], number)
+        self.values.get(column as usize) == Some(&number)
     }
 
     // The cells with another number in one column. Past the last column there is nothing to change.
-    pub fn with(self, column: u32, number: i32) -> Cells
+    pub fn with(mut self, column: u32, number: i32) -> Cells
         ensures { result ≡ with_cell column number self }
     {
-        let mut values = self.values;
         let column = column as usize;
-        if column < values.len() {
-            values[column] = number;
+        if column < WIDTH {
+            self.values[column] = number;
         }
-        Cells { values }
+        self
     }
 }
 

@@ -1,12 +1,13 @@
 // The one list: entries of any kind, in borrowed memory.
-ghost use Rattle.std.specs.Prelude.{◌≡◌, ◌<◌, ◌≤◌, true, false, [], ◌∷◌, ◌++◌, length, nat_lt, slice_set};
+ghost use Rattle.std.specs.Prelude.{◌≡◌, [], ◌∷◌, ◌++◌, length, slice_set, MatchOption, MatchResult};
 ghost use Rattle.std.specs.List.{slice_get, remove};
-ghost use Rattle.rows.specs.Lists.{memory, most, entries, NowHas, closed};
+ghost use Rattle.rows.specs.Lists.{memory, lender, most, entries, room_for, NowHas};
 
 // How many entries a list has at most, however much memory there is.
 pub const MOST_ENTRIES: usize = 65_535;
 
-// The first `count` slots are the entries.
+// The first `count` slots are the entries. The memory is the caller's, got once at the start: hence a slice
+// with a count beside it, and no `Vec`.
 #[derive(Drop)]
 pub struct List<'a, E> {
     slots: &'a mut [E],
@@ -18,7 +19,7 @@ impl<'a, E: Copy> List<'a, E> {
     pub fn new(slots: &'a mut [E]) -> List<'a, E>
         ensures holds { entries result ≡ [] }
         ensures memory { memory result ≡ slots.old }
-        ensures lent { result.slots.ghost_name ≡ slots.entry.ghost_name }
+        ensures lent { lender result ≡ slots.entry.ghost_name }
     {
         List { slots, count: 0 }
     }
@@ -41,73 +42,53 @@ impl<'a, E: Copy> List<'a, E> {
     pub fn as_slice(&self) -> &[E]
         ensures { result.now ≡ entries self.now }
     {
-        &self.slots[0..self.len()]
+        &self.slots[..self.len()]
     }
 
     // The entry at a place.
     pub fn get(&self, place: usize) -> Option<E>
         ensures { result ≡ slice_get (entries self.now) place }
     {
-        let entries = self.as_slice();
-        if place < entries.len() {
-            Some(entries[place])
-        } else {
-            None
-        }
+        self.as_slice().get(place).copied()
     }
 
-    // Adds an entry at the end. Where there is no room it answers false and changes nothing.
-    pub fn push(&mut self, entry: E) -> bool
-        ensures value { result ≡ nat_lt (length (entries self.old)) (most self.old) }
-        ensures done { result ≡ true → NowHas self.old self.new (entries self.old ++ entry ∷ []) }
-        ensures refused { result ≡ false → self.new ≡ self.old }
+    // Adds an entry at the end. Where there is no room it gives the entry back and changes nothing.
+    pub fn push(&mut self, entry: E) -> Result<(), E>
+        ensures value { result ≡ room_for self.old entry }
+        ensures after { MatchResult result (λ _. NowHas self.old self.new (entries self.old ++ entry ∷ [])) (λ _. self.new ≡ self.old) }
     {
         let len = self.len();
         if len >= self.capacity() {
-            return false;
+            return Err(entry);
         }
         self.slots[len] = entry;
         self.count = len + 1;
-        true
+        Ok(())
     }
 
-    // Puts an entry in the place of another. Where there is none it answers false and changes nothing.
-    pub fn set(&mut self, place: usize, entry: E) -> bool
-        ensures value { result ≡ nat_lt place (length (entries self.old)) }
-        ensures done { result ≡ true → NowHas self.old self.new (slice_set (entries self.old) place entry) }
-        ensures refused { result ≡ false → self.new ≡ self.old }
+    // Puts an entry in the place of another, which it gives back. Where there is none it changes nothing.
+    pub fn set(&mut self, place: usize, entry: E) -> Option<E>
+        ensures value { result ≡ slice_get (entries self.old) place }
+        ensures after { MatchOption result (self.new ≡ self.old) (λ _. NowHas self.old self.new (slice_set (entries self.old) place entry)) }
     {
         if place >= self.len() {
-            return false;
+            return None;
         }
+        let before = self.slots[place];
         self.slots[place] = entry;
-        true
+        Some(before)
     }
 
-    // Takes an entry out, and moves those behind it up by one place. Where there is none it answers
-    // false and changes nothing.
-    pub fn remove(&mut self, place: usize) -> bool
-        ensures value { result ≡ nat_lt place (length (entries self.old)) }
-        ensures done { result ≡ true → NowHas self.old self.new (remove (entries self.old) place) }
-        ensures refused { result ≡ false → self.new ≡ self.old }
+    // Takes an entry out and gives it back, and moves those behind it up by one place. Where there is
+    // none it changes nothing.
+    pub fn remove(&mut self, place: usize) -> Option<E>
+        ensures value { result ≡ slice_get (entries self.old) place }
+        ensures after { MatchOption result (self.new ≡ self.old) (λ _. NowHas self.old self.new (remove (entries self.old) place)) }
     {
+        let taken = self.get(place)?;
         let len = self.len();
-        if place >= len {
-            return false;
-        }
-        close_gap(self.slots, place, len - 1);
+        self.slots.copy_within(place + 1..len, place);
         self.count = len - 1;
-        true
-    }
-}
-
-// Moves the slots behind the place, up to the last one, down by one place each.
-fn close_gap<E: Copy>(slots: &mut [E], place: usize, last: usize)
-    requires last_in_bounds { last < length slots.old }
-    requires place_le_last { place ≤ last }
-    ensures { slots.new ≡ closed slots.old place last }
-{
-    for at in place..last {
-        slots[at] = slots[at + 1];
+        Some(taken)
     }
 }

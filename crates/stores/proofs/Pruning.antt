@@ -1,36 +1,24 @@
 -- What a change of the table below comes to in a pruned table. Assumes nothing.
-use Rattle.std.proofs.Common.{◌≡◌, ℕ, Bool, true, false, ◌&&◌, eqb, [], Ok, Err, Result, sym, ap, ◌∙◌, subst, ⊎_elim, arith}
+use Rattle.std.proofs.Common.{◌≡◌, ℕ, Bool, true, ◌&&◌, Result, sym, ap, ◌∙◌, subst}
 use mathlib.Core.Path.{fun_ext}
-use mathlib.Core.Bool.{and_assoc, and_comm}
-use Rattle.std.proofs.lemmas.List.{nil_from_length}
-use Rattle.std.proofs.lemmas.Bool.{and_parts, eqb-true, cases_Bool, cond-false}
+use mathlib.Core.Bool.{Bool-set, and_assoc, and_comm}
+use mathlib.Core.HLevel.{is_prop→PathP}
+use Rattle.std.proofs.lemmas.Bool.{and_parts}
 use Rattle.faults.specs.declared.Fault.{Fault}
-use Rattle.faults.specs.declared.Refusal.TheVariants.{StoreNotEmpty}
 use Rattle.rows.specs.declared.cells.Cells.{Cells}
-use Rattle.faults.specs.Faults.{fault}
 use Rattle.labels.specs.Guards.{meet}
 use Rattle.words.specs.Bits.{some_choice}
+use Rattle.labels.specs.declared.kinds.Guard as Guard
 use Rattle.stores.specs.declared.pruned.Pruned.{Pruned}
+use Rattle.stores.specs.declared.tables.Store as Store
 use Rattle.stores.specs.Changes.{StandsFor, SameMaking, Removed, Add, Put, Remove}
-use Rattle.stores.specs.Pruned.{pruned_table, met_with, prunable}
-use Rattle.stores.specs.Tables.{Facet, Table, count, touches, empty_table}
+use Rattle.stores.specs.Pruned.{pruned_table, met_with}
+use Rattle.stores.specs.Tables.{Facet, Table, AllTouch, touches}
 
 -- a pruned store is as it was if the one below is
-pub pruned_stays : {S G : Type 0} (before after : Pruned S G) → after.guard ≡ before.guard → after.below ≡ before.below → after ≡ before
-pruned_stays before after guard below = λ i. record { below = below i; guard = guard i }
-
--- a table that may be pruned has no row
-pub prunable_empty : (table : Table) → prunable table ≡ Ok tt → table.rows ≡ []
-prunable_empty table told = nil_from_length table.rows (⊎_elim (eqb-true (count table) 0) (λ f. absurd (refused f)) (cases_Bool (eqb (count table) 0)))
-  where
-    refused : eqb (count table) 0 ≡ false → ⊥
-    refused f =
-        let answer : Err (fault StoreNotEmpty 0) ≡ Ok tt = sym (cond-false (eqb (count table) 0) (Ok tt) (Err (fault StoreNotEmpty 0)) f) ∙ told in
-        let z : ◌≡◌ {A = ℕ} 0 1 = cc in
-        omega arith
-
-pub pruned_empty : (table : Table) (k : ℕ → Bool) → prunable table ≡ Ok tt → pruned_table table k ≡ empty_table (meet table.keeps k) table.capacity
-pruned_empty table k told = λ i. record { keeps = meet table.keeps k; capacity = table.capacity; rows = prunable_empty table told i }
+pub same_pruned : {S G : Type 0} (store : Store.Ghosts S G) (kind : Guard.Ghosts G) (before after : Pruned S G store kind) → after.guard ≡ before.guard → after.below ≡ before.below → after ≡ before
+same_pruned store kind before after guard below =
+    λ i. record { below = below i; guard = guard i; touching = is_prop→PathP (λ j. AllTouch (pruned_table (store.table (below j)) (kind.admitted (guard j)))) (λ j. Bool-set _ _) after.touching before.touching i }
 
 -- a guard touches the pruned table exactly if its meet with the pruning guard touches the one below
 pub touches_met : (below : Table) (k g : ℕ → Bool) → touches below (meet g k) ≡ touches (pruned_table below k) g

@@ -6,9 +6,10 @@ use Rattle.faults.specs.declared.Fault.{Fault}
 use Rattle.rows.specs.declared.cells.Cells.{Cells}
 use Rattle.labels.specs.Guards.{meet}
 use Rattle.words.specs.Bits.{some_choice}
-use Rattle.words.specs.Lists.{all}
-use Rattle.words.proofs.Walked.{all_append, all_in_any_order, all_parts, all_from_parts, all_set, all_at}
-use Rattle.stores.specs.Tables.{Facet, Table, count, empty_table, touches, AllTouch, row_at, no_row}
+use Rattle.std.specs.List.{list_all}
+use Rattle.std.proofs.lemmas.List.Folds.{list_all-append}
+use Rattle.words.proofs.Walked.{all_in_any_order, all_parts, all_from_parts, all_set, all_at}
+use Rattle.stores.specs.Tables.{Facet, Table, count, touches, AllTouch, row_at, no_row}
 use Rattle.stores.specs.Changes.{StandsFor, SameMaking, Appended, Replaced, Removed, Add, Put, Remove}
 
 -- what stands for a row admits the same of the kept choices
@@ -37,21 +38,21 @@ module _ (before after : Table) where
   appended_touching : (given : Facet Cells) → touches before given.guard ≡ true → Appended before after given → AllTouch before → AllTouch after
   appended_touching given touch done each =
       let last = row_at after (count before) in
-      ap₂ all (same_test done.making) done.rows
-      ∙ all_append (test before) before.rows (last ∷ [])
+      ap₂ list_all (same_test done.making) done.rows
+      ∙ list_all-append (test before) before.rows (last ∷ [])
       ∙ and_from _ _ each (and_from _ _ (stands_touches before last given done.stored ∙ touch) refl)
 
   replaced_touching : (place : ℕ) (given : Facet Cells) → place < count before → touches before given.guard ≡ true → Replaced before after place given → AllTouch before → AllTouch after
   replaced_touching place given within touch done each =
       let there = row_at after place in
-      ap₂ all (same_test done.making) done.rows
+      ap₂ list_all (same_test done.making) done.rows
       ∙ all_set (test before) before.rows place there within each (stands_touches before there given done.stored ∙ touch)
 
   removed_touching : (place : ℕ) → Removed before after place → AllTouch before → AllTouch after
   removed_touching place done each =
-      ap (λ t. all t after.rows) (same_test done.making)
+      ap (λ t. list_all t after.rows) (same_test done.making)
       ∙ all_from_parts (test before) after.rows place
-      (ap (all (test before)) done.lower ∙ (all_parts (test before) before.rows place each).0)
+      (ap (list_all (test before)) done.lower ∙ (all_parts (test before) before.rows place each).0)
       (all_in_any_order (test before) (drop (suc place) before.rows) (drop place after.rows) done.above (all_parts (test before) before.rows (suc place) each).1)
 
   stays : after ≡ before → AllTouch before → AllTouch after
@@ -80,7 +81,3 @@ module _ (before after : Table) where
 pub row_touching : (table : Table) (place : ℕ) (row : Facet Cells) → row ≡ row_at table place → AllTouch table → place < count table → touches table row.guard ≡ true
 row_touching table place row same each within =
     ap (λ f. touches table f.guard) same ∙ all_at (λ f. touches table f.guard) table.rows place no_row within each
-
--- in a table with no row, each row touches it
-pub empty_touching : (table : Table) (keeps : ℕ → Bool) (capacity : ℕ) → table ≡ empty_table keeps capacity → AllTouch table
-empty_touching table keeps capacity same = ap (λ t. all (λ row. touches t row.guard) t.rows) same

@@ -1,4 +1,6 @@
 pub mod Changes
 pub mod Heaps
+pub mod Listed
 pub mod Pruned
+pub mod Prunings
 pub mod Tables

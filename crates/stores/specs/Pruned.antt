@@ -1,8 +1,8 @@
 -- What pruning does to a table. Assumes nothing.
-use Rattle.std.specs.Prelude.{ℕ, Bool, cond, Ok, Err, Result, ◌==◌}
+use Rattle.std.specs.Prelude.{ℕ, Bool, Result, ◌==◌}
 use Rattle.faults.specs.declared.Fault.{Fault}
 use Rattle.faults.specs.declared.Refusal.TheVariants.{StoreNotEmpty}
-use Rattle.faults.specs.Faults.{fault}
+use Rattle.faults.specs.Faults.{unless, answered}
 use Rattle.labels.specs.Guards.{meet}
 use Rattle.rows.specs.declared.cells.Cells.{Cells}
 use Rattle.stores.specs.Tables.{Facet, Table, count}
@@ -17,4 +17,4 @@ met_with guard row = record { guard = meet row.guard guard; held = row.held }
 
 -- only a table with no row is pruned
 abbrev pub prunable : Table → Result (Unit {0}) Fault
-prunable below = cond (count below == 0) (Ok tt) (Err (fault StoreNotEmpty 0))
+prunable below = answered (unless (count below == 0) StoreNotEmpty 0)

@@ -5,7 +5,7 @@ use Rattle.rows.specs.declared.cells.Row.{Row}
 use Rattle.labels.specs.Guards.{meet, nothing}
 use Rattle.rows.specs.Cells.{zeros, cell_is}
 use Rattle.words.specs.Bits.{some_choice}
-use Rattle.words.specs.Lists.{all}
+use Rattle.std.specs.List.{list_all}
 
 -- a facet: something, for the choices that its guard admits
 pub record Facet (X : Type 0) : Type 0 where
@@ -41,7 +41,7 @@ touches table guard = some_choice (meet table.keeps guard)
 
 -- each row's guard touches the table
 abbrev pub AllTouch : Table → Type 0
-AllTouch table = all (λ row. touches table row.guard) table.rows ≡ true
+AllTouch table = list_all (λ row. touches table row.guard) table.rows ≡ true
 
 -- what stands at a place with no row: a guard that admits nothing, and zeros
 abbrev pub no_row : Facet Cells

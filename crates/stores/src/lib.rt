@@ -7,4 +7,4 @@ pub mod tables;
 
 pub use heaps::Heap;
 pub use pruned::Pruned;
-pub use tables::Store;
+pub use tables::{Store, no_row};

@@ -1,38 +1,38 @@
 // Pruning: a store that keeps only the choices which a guard admits, over any store.
-ghost use Rattle.std.specs.Prelude.{◌≡◌, Ok};
-ghost use Rattle.labels.specs.Guards.{meet};
-ghost use Rattle.stores.specs.Pruned.{pruned_table, prunable, met_with};
-ghost use Rattle.stores.specs.Tables.{empty_table, facet, AllTouch};
+ghost use Rattle.stores.specs.Pruned.{pruned_table};
+ghost use Rattle.stores.specs.Tables.{AllTouch};
 
 use crate::tables::Store;
-use faults::{Fault, Refusal};
+use faults::{Fault, Refusal, refuse_unless};
 use labels::{Choice, Guard};
 use rows::Row;
 
 // Rows go to the store below met with the guard, so that it holds nothing for other choices.
 #[derive(Drop)]
-pub struct Pruned<S, G> {
+pub struct Pruned<S: Store<G>, G: Guard> {
     below: S,
     guard: G,
+    ghost touching: { AllTouch (pruned_table (S.table below) (G.admitted guard)) },
 }
 
 impl<G: Guard, S: Store<G>> Pruned<S, G> {
+    ghost use Rattle.std.specs.Prelude.{◌≡◌, Ok};
+    ghost use Rattle.labels.specs.Guards.{meet};
+    ghost use Rattle.stores.specs.Pruned.{prunable, met_with};
+    ghost use Rattle.stores.specs.Prunings.{pruning_table};
+    ghost use Rattle.stores.specs.Tables.{empty_table, facet};
+
     // Tells before a store is pruned whether it may be: it may not have a row.
     pub fn check(below: &S) -> Result<(), Fault>
         ensures { result ≡ prunable (S.table below.now) }
     {
-        if below.count() == 0 {
-            Ok(())
-        } else {
-            Err(Fault::new(Refusal::StoreNotEmpty, 0))
-        }
+        refuse_unless(below.count() == 0, Refusal::StoreNotEmpty, 0)
     }
 
     // Prunes a store that has no row.
     pub fn new(below: S, guard: G) -> Pruned<S, G>
         requires { prunable (S.table below) ≡ Ok tt }
-        ensures touching { AllTouch (pruned_table (S.table result.below) (G.admitted result.guard)) }
-        ensures value { pruned_table (S.table result.below) (G.admitted result.guard) ≡ empty_table (meet (S.table below).keeps (G.admitted guard)) (S.table below).capacity }
+        ensures { pruning_table S.Store G.Guard result ≡ empty_table (meet (S.table below).keeps (G.admitted guard)) (S.table below).capacity }
     {
         Pruned { below, guard }
     }
@@ -49,7 +49,11 @@ impl<G: Guard, S: Store<G>> Pruned<S, G> {
 }
 
 impl<G: Guard, S: Store<G>> Store<G> for Pruned<S, G> {
-    ghost table = { λ p. pruned_table (S.table p.below) (G.admitted p.guard) };
+    ghost use Rattle.stores.specs.Prunings.{pruning_table};
+
+    ghost table = { pruning_table S.Store G.Guard };
+
+    ghost touching = { λ p. p.touching };
 
     fn count(&self) -> u32 {
         self.below.count()

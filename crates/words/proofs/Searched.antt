@@ -1,7 +1,7 @@
 -- Tests at every label and at some choice: what they say, and that equal tests give equal answers. Assumes nothing.
 use Rattle.std.proofs.Common.{◌≡◌, ℕ, ◌^◌, ◌<◌, Bool, true, false, Decides, sym, refl, ◌∙◌}
-use Rattle.std.proofs.lemmas.Bool.{both_ways}
-use Rattle.std.proofs.lemmas.Bool.Decides.{Decides-below_and, Decides-below_or}
+use Rattle.std.proofs.lemmas.Bool.{both_ways, false_from_ne_true}
+use Rattle.std.proofs.lemmas.Bool.Decides.{Decides-below_and, Decides-below_or, same_from_decides, Decides-like}
 use Rattle.words.specs.Bits.{all_below, some_below, every_label, some_choice}
 
 -- a test of booleans is itself
@@ -10,13 +10,10 @@ itself b = (λ e. e, λ e. e)
 
 -- two tests that are true together are equal
 pub same_truth : (a b : Bool) → (a ≡ true → b ≡ true) → (b ≡ true → a ≡ true) → a ≡ b
-same_truth true b f g = sym (f refl)
-same_truth false true f g = g refl
-same_truth false false f g = refl
+same_truth a b f g = same_from_decides a b (f, g) (itself b)
 
 pub never_true : (a : Bool) → (a ≡ true → ⊥) → a ≡ false
-never_true true f = absurd (f refl)
-never_true false f = refl
+never_true = false_from_ne_true
 
 -- a test that passes everywhere below n passes at each number there
 pub all_below_each : (n : ℕ) (p : ℕ → Bool) → all_below n p ≡ true → (k : ℕ) → k < n → p k ≡ true
@@ -29,11 +26,8 @@ every_label_each p = Decides-below_and p (λ l. p l ≡ true) (λ n. all_below n
 
 pub every_label_same : (p q : ℕ → Bool) → ((l : ℕ) → l < 64 → p l ≡ q l) → every_label p ≡ every_label q
 every_label_same p q e =
-    let ps = every_label_each p in
-    let qs = every_label_each q in
-    same_truth (every_label p) (every_label q)
-    (λ t. qs.1 (λ l h. sym (e l h) ∙ ps.0 t l h))
-    (λ t. ps.1 (λ l h. e l h ∙ qs.0 t l h))
+    let ps = Decides-like (every_label p) (λ f l h. sym (e l h) ∙ f l h) (λ f l h. e l h ∙ f l h) (every_label_each p) in
+    same_from_decides (every_label p) (every_label q) ps (every_label_each q)
 
 -- some choice passes exactly if there is one
 pub some_choice_one : (p : ℕ → Bool) → Decides (some_choice p) ((c : ℕ) × (c < 2 ^ 64) × (p c ≡ true))
@@ -46,4 +40,4 @@ some_choice_by p c h e = (some_choice_one p).1 (c, h, e)
 
 -- no choice passes
 pub no_choice : (p : ℕ → Bool) → ((c : ℕ) → p c ≡ false) → some_choice p ≡ false
-no_choice p none = never_true (some_choice p) (λ t. let w = (some_choice_one p).0 t in both_ways (p w.0) (none w.0) w.2)
+no_choice p none = false_from_ne_true (some_choice p) (λ t. let w = (some_choice_one p).0 t in both_ways (p w.0) (none w.0) w.2)

@@ -1,9 +1,10 @@
 -- Words read as sets. A choice is a set of labels, held as a word whose bit l is 1 when label l is in it. Assumes nothing.
-use Rattle.std.specs.Prelude.{ℕ, zero, suc, ◌+◌, ◌/◌, ◌%◌, ◌^◌, Bool, true, false, cond, ◌&&◌, ◌||◌, ◌==◌, bit_or, nat_lt}
+use Rattle.std.specs.Prelude.{ℕ, zero, suc, ◌+◌, ◌^◌, Bool, true, false, cond, ◌&&◌, ◌||◌, ◌==◌, bit_or, nat_lt}
+use Rattle.std.specs.Int.{bit_at}
 
 -- bit l of the word is 1; of a choice: label l is in it
 unfoldable pub has : ℕ → ℕ → Bool
-has choice label = choice / 2 ^ label % 2 == 1
+has choice label = bit_at choice label == 1
 
 -- the choice with one label more; a choice holds labels below 64
 abbrev pub with_label : ℕ → ℕ → ℕ

@@ -1,15 +1,17 @@
 // What the indexed table is made of.
 ghost use Rattle.std.specs.Prelude.{◌≡◌, ◌<◌, min, [], ◌∷◌, ◌++◌, pos, IfOk, vec_len, ◌==◌, nat_le, nat_lt, slice_index_or, slice_set};
+ghost use Rattle.std.specs.List.{slice_get};
 ghost use Rattle.labels.specs.Guards.{everything};
 ghost use Rattle.rows.specs.Cells.{cell};
-ghost use Rattle.stores.specs.Tables.{empty_table, facet, no_row, count, has_number, Lowest};
+ghost use Rattle.stores.specs.Tables.{empty_table, facet};
 ghost use Rattle.indexed.specs.Numbers.{first_numbers};
-ghost use Rattle.indexed.specs.Tables.{indexed_table, with_rows, moved_last};
+ghost use Rattle.indexed.specs.Tables.{rows_table, with_rows, moved_last};
 
+use crate::entries::Entry;
 use crate::index::Index;
-use crate::tables::{INDEXED_COLUMN, Indexed};
+use crate::tables::{INDEXED_COLUMN, IndexedRows};
 use labels::Guard;
-use rows::{Cells, Row};
+use rows::Row;
 use std::alloc::{AllocError, Global};
 
 // How many rows an indexed table has at most.
@@ -29,23 +31,13 @@ fn first_number<G>(row: &Row<G>) -> i32
     row.cells.values[INDEXED_COLUMN as usize]
 }
 
-// What stands at a place with no row.
-pub(super) fn no_row<G: Guard>() -> Row<G>
-    ensures { facet G.admitted result ≡ no_row }
-{
-    Row {
-        guard: G::nothing(),
-        cells: Cells::zeros(),
-    }
-}
-
-impl<G: Guard> Indexed<G> {
-    // A table with no row, and room for this many, at most 4,096. All its memory is got here.
-    pub fn new(heap: Global, capacity: u32) -> Result<Indexed<G>, AllocError>
-        ensures { IfOk result (λ t. indexed_table G.admitted t ≡ empty_table everything (min capacity 4096)) }
+impl<G: Guard> IndexedRows<G> {
+    // No row, and room for this many, at most 4,096. All the memory is got here.
+    pub(super) fn new(heap: Global, capacity: u32) -> Result<IndexedRows<G>, AllocError>
+        ensures { IfOk result (λ t. rows_table G.admitted t ≡ empty_table everything (min capacity 4096)) }
     {
         let capacity = capacity.min(MOST_ROWS);
-        Ok(Indexed {
+        Ok(IndexedRows {
             rows: Vec::with_capacity(heap, capacity as usize)?,
             index: Index::new(heap, capacity as usize)?,
             capacity,
@@ -73,8 +65,16 @@ impl<G: Guard> Indexed<G> {
         place < self.len()
     }
 
-    // The row at the place.
-    pub(super) fn stored(&self, place: u32) -> Row<G>
+    // The row at the place, if there is one.
+    pub(super) fn get(&self, place: u32) -> Option<Row<G>>
+        ensures { result ≡ slice_get self.now.rows.items place }
+    {
+        self.rows.get(place as usize).copied()
+    }
+
+    // The row at the place, where there is one. That there is one is asked here and below in as many words: a name
+    // for it would be no shorter.
+    fn stored(&self, place: u32) -> Row<G>
         requires { place < vec_len self.now.rows }
         ensures { result ≡ slice_index_or self.now.rows.items place result }
     {
@@ -89,47 +89,47 @@ impl<G: Guard> Indexed<G> {
         first_number(&self.stored(place))
     }
 
-    // The lowest place at or after `from` whose row has the number in the column, found row by row.
-    pub(super) fn scan(&self, from: u32, column: u32, number: i32) -> Option<u32>
-        ensures { Lowest (count (indexed_table G.admitted self.now)) (has_number (indexed_table G.admitted self.now) column number) from result }
-    {
-        for place in from..self.len() {
-            if self.stored(place).cells.has(column, number) {
-                return Some(place);
-            }
-        }
-        None
-    }
-
     // Adds a row behind the others, where there is room.
     pub(super) fn append(&mut self, row: &Row<G>)
         requires { vec_len self.old.rows < self.old.capacity }
-        ensures { indexed_table G.admitted self.new ≡ with_rows (indexed_table G.admitted self.old) ((indexed_table G.admitted self.old).rows ++ facet G.admitted row.now ∷ []) }
+        ensures { rows_table G.admitted self.new ≡ with_rows (rows_table G.admitted self.old) ((rows_table G.admitted self.old).rows ++ facet G.admitted row.now ∷ []) }
     {
-        let place = self.len();
-        self.index.insert(first_number(row), place);
+        let entry = Entry {
+            number: first_number(row),
+            place: self.len(),
+        };
+        self.index.insert(entry);
         self.rows.push_reserved(*row);
     }
 
     // Puts a row in the place of another.
     pub(super) fn replace(&mut self, place: u32, row: &Row<G>)
         requires { place < vec_len self.old.rows }
-        ensures { indexed_table G.admitted self.new ≡ with_rows (indexed_table G.admitted self.old) (slice_set (indexed_table G.admitted self.old).rows place (facet G.admitted row.now)) }
+        ensures { rows_table G.admitted self.new ≡ with_rows (rows_table G.admitted self.old) (slice_set (rows_table G.admitted self.old).rows place (facet G.admitted row.now)) }
     {
-        let old = self.number_at(place);
-        self.index.renumber(place, old, first_number(row));
+        let old = Entry {
+            number: self.number_at(place),
+            place,
+        };
+        self.index.renumber(old, first_number(row));
         self.rows[place as usize] = *row;
     }
 
     // Takes a row out, and moves the last row into the gap.
     pub(super) fn take_out(&mut self, place: u32)
         requires { place < vec_len self.old.rows }
-        ensures { indexed_table G.admitted self.new ≡ with_rows (indexed_table G.admitted self.old) (moved_last (indexed_table G.admitted self.old).rows place) }
+        ensures { rows_table G.admitted self.new ≡ with_rows (rows_table G.admitted self.old) (moved_last (rows_table G.admitted self.old).rows place) }
     {
-        let last = self.len() - 1;
-        let old = self.number_at(place);
-        let moved = self.number_at(last);
-        self.index.close_gap(place, old, last, moved);
+        let gap = Entry {
+            number: self.number_at(place),
+            place,
+        };
+        let end = self.len() - 1;
+        let last = Entry {
+            number: self.number_at(end),
+            place: end,
+        };
+        self.index.close_gap(gap, last);
         self.rows.swap_remove(place as usize);
     }
 }

@@ -1,19 +1,11 @@
 // What a path offers.
 ghost use Rattle.std.specs.Prelude.{◌≡◌, ◌<◌, true, [], ◌∷◌, ◌++◌, length, MatchResult};
-ghost use Rattle.labels.specs.Guards.{literal_guard, meet};
 ghost use Rattle.labels.specs.Paths.{literals, path_holds, path_guard, all_known, room};
 
 use crate::kinds::Guard;
 use crate::literals::{Literal, Sign};
-use crate::paths::Path;
-use faults::{Fault, Refusal};
-
-// The guard, for the choices at which the literal holds too.
-fn narrowed<G: Guard>(guard: G, literal: Literal) -> G
-    ensures { G.admitted result ≡ meet (G.admitted guard) (literal_guard G.known literal) }
-{
-    guard.meet(G::of_literal(literal))
-}
+use crate::paths::{MOST_LITERALS, Path};
+use faults::{Fault, Refusal, refuse_unless};
 
 impl Path {
     // The path with no literal, which holds at every choice.
@@ -25,7 +17,7 @@ impl Path {
             label: 0,
         };
         Path {
-            literals: [unused; 8],
+            literals: [unused; MOST_LITERALS],
             len: 0,
         }
     }
@@ -34,18 +26,15 @@ impl Path {
     pub fn as_slice(&self) -> &[Literal]
         ensures { result.now ≡ literals self.now }
     {
-        &self.literals[0..self.len]
+        &self.literals[..self.len]
     }
 
     // Tells before a literal is added whether there is room for it.
     pub fn check_room(&self) -> Result<(), Fault>
         ensures { result ≡ room (literals self.now) }
     {
-        if self.as_slice().len() < 8 {
-            Ok(())
-        } else {
-            Err(Fault::new(Refusal::CountOutOfLimits, 0))
-        }
+        let has_room = self.as_slice().len() < MOST_LITERALS;
+        refuse_unless(has_room, Refusal::CountOutOfLimits, 0)
     }
 
     // Adds a literal at the end, or leaves the path as it was where there is no room.
@@ -73,11 +62,8 @@ impl Path {
         ensures admitted { G.admitted result ≡ path_guard G.known (literals self.now) }
         ensures holds { all_known G.known (literals self.now) ≡ true → G.admitted result ≡ path_holds (literals self.now) }
     {
-        let literals = self.as_slice();
-        let mut guard = G::everything();
-        for literal in literals {
-            guard = narrowed(guard, *literal);
-        }
-        guard
+        self.as_slice()
+            .iter()
+            .fold(G::everything(), |guard, literal| guard.narrowed(*literal))
     }
 }

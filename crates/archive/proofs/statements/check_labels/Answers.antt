@@ -1,33 +1,24 @@
-use Rattle.std.proofs.Common.{◌<◌, length, Err, sym, ap, ◌∙◌, arith, rules}
-use Rattle.std.proofs.lemmas.List.{length-take}
-use Rattle.queries.specs.Tests.{answered}
-use Rattle.archive.specs.Rules.{path_fault}
-use Rattle.archive.proofs.Checked.{labels_more, labels_told, labels_end}
+use Rattle.std.proofs.Common.{◌≡◌, not, ltb, Err, sym, ap, ◌∙◌, rules}
+use Rattle.std.specs.List.{position}
+use Rattle.std.specs.Option.{option_map}
+use Rattle.std.proofs.lemmas.Iterator.{YieldsList-from_slice}
+use Rattle.std.proofs.lemmas.Iterator.Search.{position_from_yields_List}
+use borrow.Author.Tests.{tests}
+use Rattle.faults.specs.declared.Refusal.TheVariants.{UnknownLabel}
+use Rattle.faults.specs.Faults.{fault, answered}
+use Rattle.labels.specs.Paths.{literals}
 use Rattle.archive.proofs.statements.check_labels.Goals as goal
 
-pub overflow_cast-position : goal.overflow_cast-position
-overflow_cast-position g c =
-    let p = c.args.path.now in
-    let few : c.loop-position.position < 8 = omega (arith, c.loop-position-test.true, ap length c.as_slice-literals.ensures, length-take p.len p.literals, p.short) in
-    search rules
-
-pub returns-then-literals-position : goal.returns-then-literals-position
-returns-then-literals-position g c =
+pub returns-in-Some : goal.returns-in-Some
+returns-in-Some g c =
     let known = g.G.Guard.known in
-    let path = c.as_slice-literals.result.now in
-    ap Err c.new.ensures
-    ∙ sym (ap answered (labels_told known path c.loop-position.position _ c.label_count-known.result c.label_count-known.ensures c.loop-position-test.true c.if-literals-position.true))
-    ∙ ap answered c.loop-position.invariant
-    ∙ ap (λ ls. answered (path_fault known ls)) c.as_slice-literals.ensures
+    let found : c.position.result ≡ position (λ l. not (ltb l.label known)) (literals c.args.path.now) =
+    position_from_yields_List (λ l. not (ltb l.label known)) _ _ c.position.result c.position.ensures.ran (YieldsList-from_slice _ (c.iter.ensures.rest ∙ c.as_slice-literals.ensures)) (λ x b q k. let is = c.label_count-known.ensures in search (rules, tests)) in
+    ap Err c.new.ensures ∙ ap (λ place. answered (option_map (fault UnknownLabel) place)) (sym c.in-Some.is ∙ found)
 
-pub loop-position-preserved : goal.loop-position-preserved
-loop-position-preserved g c =
-    sym (labels_more g.G.Guard.known c.as_slice-literals.result.now c.loop-position.position _ c.label_count-known.result c.label_count-known.ensures c.loop-position-test.true c.if-literals-position.false) ∙ c.loop-position.invariant
-
-pub returns : goal.returns
-returns g c =
+pub returns-in-None : goal.returns-in-None
+returns-in-None g c =
     let known = g.G.Guard.known in
-    let path = c.as_slice-literals.result.now in
-    sym (ap answered (labels_end known path c.loop-position.position c.loop-position-test.false))
-    ∙ ap answered c.loop-position.invariant
-    ∙ ap (λ ls. answered (path_fault known ls)) c.as_slice-literals.ensures
+    let found : c.position.result ≡ position (λ l. not (ltb l.label known)) (literals c.args.path.now) =
+    position_from_yields_List (λ l. not (ltb l.label known)) _ _ c.position.result c.position.ensures.ran (YieldsList-from_slice _ (c.iter.ensures.rest ∙ c.as_slice-literals.ensures)) (λ x b q k. let is = c.label_count-known.ensures in search (rules, tests)) in
+    ap (λ place. answered (option_map (fault UnknownLabel) place)) (sym c.in-None.is ∙ found)

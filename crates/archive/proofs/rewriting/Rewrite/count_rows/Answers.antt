@@ -1,29 +1,26 @@
-use Rattle.std.proofs.Common.{◌+◌, ◌*◌, ◌<◌, ◌≤◌, length, ap, ◌∙◌, arith, rules}
-use Rattle.std.proofs.lemmas.List.{take_all}
-use Rattle.std.specs.List.{flat_map}
-use Rattle.stores.specs.Tables.{count, no_row}
+use Rattle.std.proofs.Common.{◌≡◌, ◌^◌, length, ◌∙◌, arith, rules}
+use Rattle.std.specs.List.{range_with_len, sum_by}
+use Rattle.std.proofs.lemmas.Iterator.{YieldsList-from_range, YieldsList-from_map}
+use Rattle.std.proofs.lemmas.Iterator.Adapters.{at_most_from_yields_List, fits_from_length}
+use Rattle.std.proofs.lemmas.Iterator.Consumers.{sum_by_from_yields_List}
+use Rattle.std.proofs.lemmas.List.FromFn.{length-range_with_len}
+use borrow.Author.Tests.{tests}
+use Rattle.stores.specs.Tables.{row_at}
 use Rattle.archive.specs.Rules.{rewritten}
-use Rattle.archive.specs.Turns.{path_of, test_of}
-use Rattle.archive.proofs.Counted.{joined_turn}
+use Rattle.archive.specs.Turns.{given, ruled}
+use Rattle.archive.proofs.Counted.{joined_by_place}
 use Rattle.archive.proofs.rewriting.Rewrite.count_rows.Goals as goal
 
-pub overflow_add-total : goal.overflow_add-total
-overflow_add-total g c =
-    let few = c.count_parts-total.ensures.few in
-    let so_far = c.loop-place.invariant.0 in
-    let bound : c.loop-place.total + c.count_parts-total.result ≤ 9 * c.loop-place.place + 9 = omega arith in
-    search rules
-
-pub loop-place-preserved : goal.loop-place-preserved
-loop-place-preserved g c =
-    let table = g.S.Store.table c.args.store.now in
-    let rewrite = c.args.self.now in
-    let parts = rewritten table g.G.Guard.known (path_of rewrite) (test_of rewrite) rewrite.change in
-    let within : c.loop-place.place < count table = omega (arith, c.loop-place-test.true, c.count-place-end.ensures) in
-    (omega (arith, c.loop-place.invariant.0, c.count_parts-total.ensures.few), joined_turn parts table.rows c.loop-place.place c.loop-place.total c.count_parts-total.result no_row within c.loop-place.invariant.1 (c.count_parts-total.ensures.value ∙ ap (λ row. length (parts row)) c.row.ensures.value))
+pub sum-requires-clause-fits : goal.sum-requires-clause-fits
+sum-requires-clause-fits g c =
+    fits_from_length _ _ (2 ^ 32) (2 ^ 64) (at_most_from_yields_List (YieldsList-from_range 0 c.count.result c.count.result c.map.ensures.source (omega arith)) (omega (arith, length-range_with_len 0 c.count.result))) c.map.ensures.closure (omega arith) (λ x r q k. search (rules, tests))
 
 pub returns : goal.returns
 returns g c =
     let table = g.S.Store.table c.args.store.now in
-    let rewrite = c.args.self.now in
-    c.loop-place.invariant.1 ∙ ap (λ rows. length (flat_map (rewritten table g.G.Guard.known (path_of rewrite) (test_of rewrite) rewrite.change) rows)) (take_all c.loop-place.place table.rows (omega (arith, c.loop-place-test.false, c.count-place-end.ensures)))
+    let parts = ruled (rewritten table) (given g.G.Guard.known c.args.self.now) in
+    let n = c.count.result in
+    let total : c.sum.result ≡ sum_by (λ place. length (parts (row_at table place))) (range_with_len 0 n) =
+    sum_by_from_yields_List (λ place. length (parts (row_at table place))) (range_with_len 0 n) c.map.result c.sum.result c.sum.ensures.ran
+    (YieldsList-from_map _ (λ place. length (parts (row_at table place))) (YieldsList-from_range 0 n n c.map.ensures.source (omega arith)) c.map.ensures.closure (λ x r q k. search rules)) in
+    total ∙ joined_by_place parts table n c.count.ensures

@@ -1,40 +1,34 @@
-use Rattle.std.proofs.Common.{◌≡◌, length, Err, sym, refl, ap, arith}
-use Rattle.std.proofs.lemmas.Bool.{not-true, not-false, ltb-true, ltb-false}
-use Rattle.rows.specs.Lists.{entries, most}
-use Rattle.stores.specs.declared.heaps.Heap.{Heap}
+use Rattle.std.proofs.Common.{Err, refl, sym, ap, arith}
+use Rattle.std.proofs.lemmas.Bool.{not-true, not-false}
+use Rattle.rows.proofs.Entries.{had_room, had_no_room}
 use Rattle.stores.specs.Heaps.{heap_table}
-use Rattle.stores.specs.Tables.{facet, touches}
-use Rattle.stores.proofs.Heaped.{heap_count, heap_appended, stays}
+use Rattle.stores.specs.Tables.{facet}
+use Rattle.stores.proofs.Heaped.{same_heap}
+use Rattle.stores.proofs.Listed.{listed_count, listed_appended, pushed_touching}
 use Rattle.stores.proofs.Outcomes.{add_ignored, add_full, add_added}
-use Rattle.stores.proofs.Touching.{add_touching}
 use Rattle.stores.proofs.heaps.HeapStore.add.Goals as goal
 
 pub returns-then-is_empty : goal.returns-then-is_empty
 returns-then-is_empty g c =
-    let table = heap_table g.G.Guard.admitted in
-    let before = c.args.self.now in
-    let row = facet g.G.Guard.admitted c.args.row.now in
-    let change = add_ignored {Same = before ≡ before} (table before) (table before) row (not-true (touches (table before) row.guard) (sym c.if-is_empty.ensures)) refl refl in
-    record { change = change; touching = λ each. each }
+    let table = heap_table g.G.Guard c.args.self.now in
+    add_ignored table table (facet g.G.Guard.admitted c.args.row.now) (not-true _ (sym c.if-is_empty.ensures)) refl refl
 
-pub returns-then-push : goal.returns-then-push
-returns-then-push g c =
-    let table = heap_table g.G.Guard.admitted in
+pub returns-in-Ok : goal.returns-in-Ok
+returns-in-Ok g c =
+    let admitted = g.G.Guard.admitted in
     let before = c.args.self.now in
-    let after : Heap g.row.G.Denot = record { rows = c.push.new.self } in
-    let row = facet g.G.Guard.admitted c.args.row.now in
-    let pushed = c.if-push.ensures in
-    let room = ltb-true (length (entries before.rows)) (most before.rows) (sym pushed.value) in
-    let change = add_added {Same = after ≡ before} (table before) (table after) row (not-false (touches (table before) row.guard) (sym c.if-is_empty.ensures)) (omega (arith, room, heap_count g.G.Guard.admitted before)) refl (heap_appended g.G.Guard.admitted before after c.args.row.now (pushed.done refl)) in
-    record { change = change; touching = add_touching (table before) (table after) (ap table) row change }
+    let row = c.args.row.now in
+    let room = had_room before.rows row c.in-Ok.ensures.value in
+    add_added (heap_table g.G.Guard before) _ (facet admitted row) (not-false _ (sym c.if-is_empty.ensures)) (omega (arith, room, listed_count admitted before.rows)) refl (listed_appended admitted before.rows c.push.new.self row c.in-Ok.ensures.after)
 
-pub returns-else-push : goal.returns-else-push
-returns-else-push g c =
-    let table = heap_table g.G.Guard.admitted in
+pub returns-in-Err : goal.returns-in-Err
+returns-in-Err g c =
+    let admitted = g.G.Guard.admitted in
     let before = c.args.self.now in
-    let after : Heap g.row.G.Denot = record { rows = c.push.new.self } in
-    let row = facet g.G.Guard.admitted c.args.row.now in
-    let turned = c.if-push.ensures in
-    let full = ltb-false (length (entries before.rows)) (most before.rows) (sym turned.value) in
-    let change = add_full (table before) (table after) row (not-false (touches (table before) row.guard) (sym c.if-is_empty.ensures)) (omega (arith, full, heap_count g.G.Guard.admitted before)) (ap Err c.new.ensures) (stays before after (turned.refused refl)) in
-    record { change = change; touching = add_touching (table before) (table after) (ap table) row change }
+    let row = c.args.row.now in
+    let full = had_no_room before.rows row c.in-Err.field-0 c.in-Err.ensures.value in
+    add_full (heap_table g.G.Guard before) _ (facet admitted row) (not-false _ (sym c.if-is_empty.ensures)) (omega (arith, full, listed_count admitted before.rows)) (ap Err c.new.ensures) (same_heap g.G.Guard before _ c.in-Err.ensures.after)
+
+pub invariant_of-self : goal.invariant_of-self
+invariant_of-self g c =
+    record { touching = pushed_touching g.G.Guard.admitted c.args.self.now.rows c.push.new.self c.args.row.now c.push.result c.push.ensures.after (not-false _ (sym c.if-is_empty.ensures)) c.args.self.now.touching }

@@ -1,17 +1,25 @@
-use Rattle.std.proofs.Common.{refl, ap}
-use Rattle.stores.specs.declared.pruned.Pruned.{Pruned}
+use Rattle.std.proofs.Common.{◌≡◌, refl, ap}
 use Rattle.stores.specs.Pruned.{pruned_table}
-use Rattle.stores.specs.Tables.{Table, facet}
-use Rattle.stores.proofs.Pruning.{pruned_add, pruned_stays}
+use Rattle.stores.specs.Tables.{facet}
+use Rattle.stores.proofs.Pruning.{pruned_add, same_pruned}
 use Rattle.stores.proofs.Touching.{add_touching}
 use Rattle.stores.proofs.pruned.PrunedStore.add.Goals as goal
+
+pub invariant_of-self : goal.invariant_of-self
+invariant_of-self g c =
+    let admitted = g.G.Guard.admitted in
+    let below = g.S.Store.table in
+    let before = c.args.self.now in
+    let k = admitted before.guard in
+    let row = facet admitted c.args.row.now in
+    let change = pruned_add k (below before.below) (below c.add.new.self) (λ (e : c.add.new.self ≡ before.below). e) row (facet admitted c.narrowed-row.result) c.narrowed-row.ensures c.add.ensures in
+    record { touching = add_touching (pruned_table (below before.below) k) (pruned_table (below c.add.new.self) k) (ap (λ s. pruned_table (below s) k)) row change before.touching }
 
 pub returns : goal.returns
 returns g c =
     let admitted = g.G.Guard.admitted in
-    let table : Pruned g.row.S.Denot g.row.G.Denot → Table = λ p. pruned_table (g.S.Store.table p.below) (admitted p.guard) in
+    let below = g.S.Store.table in
     let before = c.args.self.now in
-    let after : Pruned g.row.S.Denot g.row.G.Denot = record { below = c.add.new.self; guard = before.guard } in
+    let k = admitted before.guard in
     let row = facet admitted c.args.row.now in
-    let change = pruned_add (admitted before.guard) (g.S.Store.table before.below) (g.S.Store.table after.below) (pruned_stays before after refl) row (facet admitted c.narrowed-row.result) c.narrowed-row.ensures c.add.ensures.change in
-    record { change = change; touching = add_touching (table before) (table after) (ap table) row change }
+    pruned_add k (below before.below) (below c.add.new.self) (same_pruned g.S.Store g.G.Guard before _ refl) row (facet admitted c.narrowed-row.result) c.narrowed-row.ensures c.add.ensures

@@ -1,17 +1,25 @@
-use Rattle.std.proofs.Common.{refl, ap}
-use Rattle.stores.specs.declared.pruned.Pruned.{Pruned}
+use Rattle.std.proofs.Common.{◌≡◌, refl, ap}
 use Rattle.stores.specs.Pruned.{pruned_table}
-use Rattle.stores.specs.Tables.{Table, facet}
-use Rattle.stores.proofs.Pruning.{pruned_put, pruned_stays}
+use Rattle.stores.specs.Tables.{facet}
+use Rattle.stores.proofs.Pruning.{pruned_put, same_pruned}
 use Rattle.stores.proofs.Touching.{put_touching}
 use Rattle.stores.proofs.pruned.PrunedStore.put.Goals as goal
+
+pub invariant_of-self : goal.invariant_of-self
+invariant_of-self g c =
+    let admitted = g.G.Guard.admitted in
+    let below = g.S.Store.table in
+    let before = c.args.self.now in
+    let k = admitted before.guard in
+    let row = facet admitted c.args.row.now in
+    let change = pruned_put k (below before.below) (below c.put.new.self) (λ (e : c.put.new.self ≡ before.below). e) row (facet admitted c.narrowed-row.result) c.narrowed-row.ensures c.args.place c.put.ensures in
+    record { touching = put_touching (pruned_table (below before.below) k) (pruned_table (below c.put.new.self) k) (ap (λ s. pruned_table (below s) k)) c.args.place row change before.touching }
 
 pub returns : goal.returns
 returns g c =
     let admitted = g.G.Guard.admitted in
-    let table : Pruned g.row.S.Denot g.row.G.Denot → Table = λ p. pruned_table (g.S.Store.table p.below) (admitted p.guard) in
+    let below = g.S.Store.table in
     let before = c.args.self.now in
-    let after : Pruned g.row.S.Denot g.row.G.Denot = record { below = c.put.new.self; guard = before.guard } in
+    let k = admitted before.guard in
     let row = facet admitted c.args.row.now in
-    let change = pruned_put (admitted before.guard) (g.S.Store.table before.below) (g.S.Store.table after.below) (pruned_stays before after refl) row (facet admitted c.narrowed-row.result) c.narrowed-row.ensures c.args.place c.put.ensures.change in
-    record { change = change; touching = put_touching (table before) (table after) (ap table) c.args.place row change }
+    pruned_put k (below before.below) (below c.put.new.self) (same_pruned g.S.Store g.G.Guard before _ refl) row (facet admitted c.narrowed-row.result) c.narrowed-row.ensures c.args.place c.put.ensures

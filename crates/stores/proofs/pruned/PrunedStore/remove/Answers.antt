@@ -1,16 +1,22 @@
-use Rattle.std.proofs.Common.{refl, ap}
-use Rattle.stores.specs.declared.pruned.Pruned.{Pruned}
+use Rattle.std.proofs.Common.{◌≡◌, refl, ap}
 use Rattle.stores.specs.Pruned.{pruned_table}
-use Rattle.stores.specs.Tables.{Table}
-use Rattle.stores.proofs.Pruning.{pruned_remove, pruned_stays}
+use Rattle.stores.proofs.Pruning.{pruned_remove, same_pruned}
 use Rattle.stores.proofs.Touching.{remove_touching}
 use Rattle.stores.proofs.pruned.PrunedStore.remove.Goals as goal
+
+pub invariant_of-self : goal.invariant_of-self
+invariant_of-self g c =
+    let admitted = g.G.Guard.admitted in
+    let below = g.S.Store.table in
+    let before = c.args.self.now in
+    let k = admitted before.guard in
+    let change = pruned_remove k (below before.below) (below c.remove.new.self) (λ (e : c.remove.new.self ≡ before.below). e) c.args.place c.remove.ensures in
+    record { touching = remove_touching (pruned_table (below before.below) k) (pruned_table (below c.remove.new.self) k) (ap (λ s. pruned_table (below s) k)) c.args.place change before.touching }
 
 pub returns : goal.returns
 returns g c =
     let admitted = g.G.Guard.admitted in
-    let table : Pruned g.row.S.Denot g.row.G.Denot → Table = λ p. pruned_table (g.S.Store.table p.below) (admitted p.guard) in
+    let below = g.S.Store.table in
     let before = c.args.self.now in
-    let after : Pruned g.row.S.Denot g.row.G.Denot = record { below = c.remove.new.self; guard = before.guard } in
-    let change = pruned_remove (admitted before.guard) (g.S.Store.table before.below) (g.S.Store.table after.below) (pruned_stays before after refl) c.args.place c.remove.ensures.change in
-    record { change = change; touching = remove_touching (table before) (table after) (ap table) c.args.place change }
+    let k = admitted before.guard in
+    pruned_remove k (below before.below) (below c.remove.new.self) (same_pruned g.S.Store g.G.Guard before _ refl) c.args.place c.remove.ensures
