@@ -52,4 +52,6 @@ pub fn worked_cases() -> Answers
 }
 
 #[cfg(test)]
+mod store_tests;
+#[cfg(test)]
 mod tests;
