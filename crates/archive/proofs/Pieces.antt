@@ -4,7 +4,7 @@ use mathlib.Core.Bool.{not-not}
 use Rattle.std.specs.List.{flat_map}
 use Rattle.std.proofs.lemmas.List.{append-nil, map-id}
 use Rattle.std.proofs.lemmas.List.Concat.{flat_map_single}
-use Rattle.std.proofs.lemmas.Bool.{and_parts, both_ways, true≢false}
+use Rattle.std.proofs.lemmas.Bool.{and_parts, both_ways, true≢false, false_from_ne_true}
 use Rattle.labels.specs.declared.literals.Literal.{Literal}
 use Rattle.labels.specs.declared.literals.Sign.{Sign}
 use Rattle.labels.specs.declared.literals.Sign.TheVariants.{Plus, Minus}
@@ -18,7 +18,6 @@ use Rattle.queries.specs.Tests.{passes}
 use Rattle.stores.specs.Tables.{Facet, Table, touches}
 use Rattle.words.specs.Bits.{has}
 use Rattle.labels.proofs.Along.{path_guard_holds}
-use Rattle.words.proofs.Searched.{never_true}
 use Rattle.archive.specs.Askings.{seen}
 use Rattle.archive.specs.Plain.{plain_changed}
 use Rattle.archive.specs.Rules.{changed, under, pieces, inside, outside, touching, rewritten, rewritten_rows, added_rows}
@@ -97,7 +96,7 @@ module _ (c : ℕ) (table : Table) (small : c < 2 ^ 64) (kept : table.keeps c �
       go true false is =
           seen_one c row
           ∙ not_inside (row.guard c) (path_holds path c) (changed change row.held) (row.held ∷ [])
-          (ap (row.guard c &&◌) (sym admits_inside) ∙ never_true _ (λ admits. both_ways _ is (admits_touches c table small kept (inside known path row).guard admits)))
+          (ap (row.guard c &&◌) (sym admits_inside) ∙ false_from_ne_true _ (λ admits. both_ways _ is (admits_touches c table small kept (inside known path row).guard admits)))
       go false t is = seen_one c row ∙ not_passing (row.guard c) (path_holds path c) (row.held ∷ [])
 
   -- a table after a set or a cut

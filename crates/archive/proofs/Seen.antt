@@ -4,11 +4,11 @@ use mathlib.Core.List.{map-append}
 use Rattle.std.specs.List.{flat_map}
 use Rattle.std.proofs.lemmas.List.Elements.{filter-append}
 use Rattle.std.proofs.lemmas.List.{map-id}
-use Rattle.std.proofs.lemmas.Bool.{and_from, both_ways}
+use Rattle.std.proofs.lemmas.Bool.{and_from, both_ways, false_from_ne_true}
 use Rattle.rows.specs.declared.cells.Cells.{Cells}
 use Rattle.labels.specs.Guards.{meet}
 use Rattle.stores.specs.Tables.{Facet, Table, touches}
-use Rattle.words.proofs.Searched.{some_choice_by, never_true}
+use Rattle.words.proofs.Searched.{some_choice_by}
 use Rattle.archive.specs.Askings.{seen}
 use Rattle.archive.specs.Rules.{touching, under, at_kept}
 use Rattle.std.proofs.lemmas.List.Concat.{flat_map_single}
@@ -62,7 +62,7 @@ module _ (c : ℕ) where
     pub seen_touching : (rows : List (Facet Cells)) → seen c (touching table rows) ≡ seen c rows
     seen_touching rows =
         ap (map (λ row. row.held))
-        (kept_by_kept (λ row. row.guard c) (λ row. touches table row.guard) (λ row apart. never_true (row.guard c) (λ admits. both_ways _ apart (admits_touches row.guard admits))) rows)
+        (kept_by_kept (λ row. row.guard c) (λ row. touches table row.guard) (λ row apart. false_from_ne_true (row.guard c) (λ admits. both_ways _ apart (admits_touches row.guard admits))) rows)
 
     -- rows as they show at the kept choices
     pub seen_at_kept : (rows : List (Facet Cells)) → seen c (map (at_kept table.keeps) rows) ≡ seen c rows

@@ -5,7 +5,7 @@ use Rattle.std.proofs.Math.Path.{fun_ext}
 use Rattle.std.proofs.lemmas.Nat.{and_le_r}
 use lib.Bits.{or_lt}
 use Rattle.std.specs.Int.Bits.{and_lt}
-use Rattle.std.proofs.lemmas.Bool.{eqb-true, eqb-false, eq-eqb, and_parts, and_from, cases_lt, cond_both}
+use Rattle.std.proofs.lemmas.Bool.{eqb-true, eqb-false, eq-eqb, and_parts, and_from, cases_lt, cond_both, false_from_ne_true}
 use Rattle.std.proofs.lemmas.Bool.Decides.{nat_tests}
 use Rattle.words.specs.Bits.{has, some_choice}
 use Rattle.guards.specs.Conjunctions.{Words, words, implies, as_asked, conjunction_admits, empty_words, is_consistent, canonical, is_canonical, literal_words, one_label, meet_words, AreWide}
@@ -14,7 +14,7 @@ use Rattle.labels.specs.Literals.{signed}
 use Rattle.labels.specs.declared.literals.Literal.{Literal}
 use Rattle.labels.specs.declared.literals.Sign.{Sign}
 use Rattle.labels.specs.declared.literals.Sign.TheVariants.{Plus, Minus}
-use Rattle.words.proofs.Searched.{same_truth, never_true, every_label_each, every_label_same, some_choice_by, no_choice}
+use Rattle.words.proofs.Searched.{same_truth, every_label_each, every_label_same, some_choice_by, no_choice}
 use Rattle.words.proofs.Digits.{has_and, has_or, has_zero, has_pow, same_word}
 
 -- each label of an admitted choice is as asked
@@ -52,7 +52,7 @@ consistent w c wide t =
 
 -- words that contradict each other admit none
 pub contradiction : (w : Words) (c : ℕ) → AreWide w → is_consistent w ≡ false → conjunction_admits w c ≡ false
-contradiction w c wide e = never_true (conjunction_admits w c) (λ t. eqb-false (bit_and w.required w.excluded) 0 e (consistent w c wide t))
+contradiction w c wide e = false_from_ne_true (conjunction_admits w c) (λ t. eqb-false (bit_and w.required w.excluded) 0 e (consistent w c wide t))
 
 -- consistent words admit the choice of just the labels that they require
 pub least : (w : Words) → is_consistent w ≡ true → conjunction_admits w w.required ≡ true

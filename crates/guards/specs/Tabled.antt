@@ -4,7 +4,7 @@ use Rattle.std.proofs.Common.{sym, ap, ap₂, ◌∙◌, ⊎_elim, arith, pow_po
 use Rattle.std.proofs.Math.Path.{fun_ext}
 use Rattle.std.proofs.lemmas.Nat.{mod_below}
 use Rattle.std.specs.Int.Bits.{and_lt}
-use Rattle.std.proofs.lemmas.Bool.{eqb-true, eq-eqb, lt-ltb, cases_lt, both_ways}
+use Rattle.std.proofs.lemmas.Bool.{eqb-true, eq-eqb, lt-ltb, cases_lt, both_ways, false_from_ne_true}
 use Rattle.std.proofs.lemmas.Bool.Decides.{nat_tests}
 use Rattle.labels.specs.declared.literals.Literal.{Literal}
 use Rattle.labels.specs.declared.literals.Sign.{Sign}
@@ -13,7 +13,7 @@ use Rattle.words.specs.Bits.{has, word_of, all_below}
 use Rattle.labels.specs.Guards.{everything, literal_guard, meet, empty, IgnoresFrom}
 use Rattle.labels.specs.Literals.{signed}
 use Rattle.guards.specs.Tables.{table_admits, table_word, signed_word, literal_word}
-use Rattle.words.proofs.Searched.{same_truth, never_true, all_below_each, some_choice_by, no_choice}
+use Rattle.words.proofs.Searched.{same_truth, all_below_each, some_choice_by, no_choice}
 use Rattle.words.proofs.Digits.{has_and, has_zero, has_mod, has_word_of, word_of_small, same_word}
 
 -- a choice has a bit of its own in the word
@@ -104,7 +104,7 @@ empty_by_word w h = same_truth (w == 0) (empty (table_admits w)) to from
 
     absent : empty (table_admits w) ≡ true → (l : ℕ) → l < 64 → has w l ≡ has 0 l
     absent t l lt =
-        never_true (has w l) (λ e. both_ways (empty (table_admits w)) (ap not (some_choice_by (table_admits w) l (omega arith) (admits_low w l lt ∙ e))) t) ∙ sym (has_zero l)
+        false_from_ne_true (has w l) (λ e. both_ways (empty (table_admits w)) (ap not (some_choice_by (table_admits w) l (omega arith) (admits_low w l lt ∙ e))) t) ∙ sym (has_zero l)
 
     from : empty (table_admits w) ≡ true → (w == 0) ≡ true
     from t = eq-eqb w 0 (same_word 64 w 0 h (pow_pos 64) (absent t))

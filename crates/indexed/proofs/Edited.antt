@@ -4,8 +4,7 @@ use Rattle.std.specs.List.{insert, remove, list_any}
 use Rattle.std.proofs.lemmas.List.{drop_more}
 use Rattle.std.proofs.lemmas.List.Edits.{length-insert, get_or-insert_below, get_or-insert_at, get_or-insert_above, length-remove, get_or-remove_below, get_or-remove_above}
 use Rattle.std.proofs.lemmas.Int.{ints}
-use Rattle.std.proofs.lemmas.Bool.{cases_lt, cases_order, both_ways, false≢true, cond-true}
-use Rattle.words.proofs.Searched.{never_true}
+use Rattle.std.proofs.lemmas.Bool.{cases_lt, cases_order, both_ways, false≢true, cond-true, false_from_ne_true}
 use Rattle.std.proofs.lemmas.List.Folds.{list_any-append, list_any_at}
 use Rattle.indexed.specs.declared.entries.Entry.{Entry}
 use Rattle.indexed.specs.Index.{before, ascending, same_pair, lists, Splits}
@@ -35,7 +34,7 @@ inserted_ascends es e at order it absent = ascending_from (insert es at e) each
     precedes : (d : Entry) (k : ℕ) → at ≤ k → k < length es → comes e (get_or es k d) ≡ true
     precedes d k from within =
         before_else (get_or es k d) e (it.above k d from within)
-        (never_true (same_pair (get_or es k d).number (get_or es k d).place e.number e.place)
+        (false_from_ne_true (same_pair (get_or es k d).number (get_or es k d).place e.number e.place)
         (λ same. both_ways _ absent (list_any_at (λ x. same_pair x.number x.place e.number e.place) es k d within same)))
 
     each : (i j : ℕ) (d : Entry) → i < j → j < length (insert es at e) → comes (get_or (insert es at e) i d) (get_or (insert es at e) j d) ≡ true
@@ -109,7 +108,7 @@ module _ (es : List Entry) (at : ℕ) (d : Entry) (order : ascending es ≡ true
       any_none (λ x. same_pair x.number x.place n p) (remove es at) d
       (λ k inside.
       let long = length-remove es at within in
-      never_true (same_pair (get_or (remove es at) k d).number (get_or (remove es at) k d).place n p)
+      false_from_ne_true (same_pair (get_or (remove es at) k d).number (get_or (remove es at) k d).place n p)
       (λ same. elim (cases_lt k at) [
         | inl less ↦ apart k at n p less within (ap (λ x. same_pair x.number x.place n p) (sym (get_or-remove_below es at d k less within)) ∙ same) stood
         | inr more ↦ apart at (k + 1) n p (omega arith) (omega arith) stood (ap (λ x. same_pair x.number x.place n p) (sym (get_or-remove_above es at d k more within)) ∙ same)

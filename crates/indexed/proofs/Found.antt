@@ -1,9 +1,8 @@
 -- What stands at the position of a number with a place. Assumes nothing.
 use Rattle.std.proofs.Common.{◌≡◌, ℕ, ◌<◌, ◌≤◌, true, false, List, length, get_or, ℤ, pos, Some, None, sym, refl, ap, ◌∙◌, subst, inl, inr, arith}
 use Rattle.std.proofs.lemmas.Int.{ints}
-use Rattle.std.proofs.lemmas.Bool.{cases_lt, cases_order, both_ways}
+use Rattle.std.proofs.lemmas.Bool.{cases_lt, cases_order, both_ways, false_from_ne_true}
 use Rattle.std.proofs.lemmas.Bool.Decides.{Decides-int_eq, not_from_Decides}
-use Rattle.words.proofs.Searched.{never_true}
 use Rattle.std.proofs.lemmas.List.Folds.{list_any_at}
 use Rattle.std.specs.Ordering.{int_eq}
 use Rattle.indexed.specs.declared.entries.Entry.{Entry}
@@ -46,7 +45,7 @@ module _ (es : List Entry) (n : ℤ) (p at : ℕ) (order : ascending es ≡ true
   -- another number at the position: no place from p on is listed
   pub lowest_none : (at < length es → int_eq (get_or es at d).number n ≡ false) → (q : ℕ) → p ≤ q → lists es n q ≡ false
   lowest_none other q from =
-      never_true (lists es n q)
+      false_from_ne_true (lists es n q)
       (λ listed.
       let w = any_at (λ e. same_pair e.number e.place n q) es listed in
       let k = w.0 in
@@ -70,7 +69,7 @@ module _ (es : List Entry) (n : ℤ) (p at : ℕ) (order : ascending es ≡ true
       let level : (get_or es at d).number ≡ n = (Decides-int_eq (get_or es at d).number n).0 it-is in (
         elim (cases_lt (get_or es at d).place p) [ inl less ↦ absurd (stays within (inr (level, less))) | inr from ↦ from ],
         list_any_at (λ e. same_pair e.number e.place n (get_or es at d).place) es at d within ((same_pair_tells _ _ n _).1 (level, refl)),
-        λ q from less. never_true (lists es n q)
+        λ q from less. false_from_ne_true (lists es n q)
             (λ listed.
             let w = any_at (λ e. same_pair e.number e.place n q) es listed in
             let k = w.0 in
@@ -103,7 +102,7 @@ module _ (es xs : List Entry) (m n : ℤ) (p at : ℕ) (slice : xs ≡ es) (pass
   pub read_other : (e : Entry) → e ≡ get_or xs at e → (e.number ≡ n → ⊥) → LowestListed (lists es n) p None
   read_other e here other =
       subst (λ ys. LowestListed (lists ys n) p None) slice
-      (lowest_none xs n p at rises parts e (λ _. never_true _ (λ t. other (ap (λ x. x.number) here ∙ (Decides-int_eq _ n).0 t))))
+      (lowest_none xs n p at rises parts e (λ _. false_from_ne_true _ (λ t. other (ap (λ x. x.number) here ∙ (Decides-int_eq _ n).0 t))))
 
   pub read_past : length xs ≤ at → LowestListed (lists es n) p None
   read_past past =

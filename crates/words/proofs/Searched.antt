@@ -12,9 +12,6 @@ itself b = (λ e. e, λ e. e)
 pub same_truth : (a b : Bool) → (a ≡ true → b ≡ true) → (b ≡ true → a ≡ true) → a ≡ b
 same_truth a b f g = same_from_decides a b (f, g) (itself b)
 
-pub never_true : (a : Bool) → (a ≡ true → ⊥) → a ≡ false
-never_true = false_from_ne_true
-
 -- a test that passes everywhere below n passes at each number there
 pub all_below_each : (n : ℕ) (p : ℕ → Bool) → all_below n p ≡ true → (k : ℕ) → k < n → p k ≡ true
 all_below_each n p = (Decides-below_and p (λ k. p k ≡ true) (λ m. all_below m p) (λ k. itself (p k)) refl (λ _. refl) n).0
