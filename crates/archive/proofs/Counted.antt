@@ -33,7 +33,7 @@ module _ (table : Table) (known : ℕ) (path : List Literal) (i : ℕ) (d : Lite
   later = outside table known (drop (i + 1) path) record { guard = g'; held = cells }
 
   -- the next piece, if it touches the table, and those behind it
-  outside_turn : still ≡ cond (touches table h) (piece ∷ later) later
+  pub outside_turn : still ≡ cond (touches table h) (piece ∷ later) later
   outside_turn =
       ap (λ ls. outside table known ls record { guard = g; held = cells }) (drop_more path i d within)
       ∙ ap₂ (λ a b. cond (touches table a) (record { guard = a; held = cells } ∷ outside table known (drop (i + 1) path) record { guard = b; held = cells }) (outside table known (drop (i + 1) path) record { guard = b; held = cells })) (sym away) (sym on)

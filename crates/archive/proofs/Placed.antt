@@ -177,7 +177,7 @@ module _ (start : Table) (given : Given) where
 
   module _ (middle : Table) (gathered : Shows start middle (rows_left start given)) where
     -- of each row that was gathered something is left
-    gathered_left : list_all (is_left middle given) (shown middle) ≡ true
+    pub gathered_left : list_all (is_left middle given) (shown middle) ≡ true
     gathered_left =
         ap₂ (λ f keeps. list_all (λ row. some_left (f row)) (view keeps middle)) (same_parts start middle given gathered.making.keeps) gathered.making.keeps
         ∙ ap (list_all (λ row. some_left (r row))) gathered.seen

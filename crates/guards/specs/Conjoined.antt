@@ -1,14 +1,14 @@
 -- Lemmas on the conjunction kind: what its words admit. Assumes nothing.
-use Rattle.std.specs.Prelude.{◌≡◌, ℕ, ◌^◌, ◌<◌, ◌≤◌, Bool, true, false, not, ◌&&◌, ◌==◌, bit_and, bit_or, refl}
+use Rattle.std.specs.Prelude.{◌≡◌, ℕ, ◌^◌, ◌<◌, ◌≤◌, Bool, true, false, not, ◌&&◌, ◌||◌, ◌==◌, bit_and, bit_or, nat_lt, refl}
 use Rattle.std.proofs.Common.{sym, ap, ◌∙◌, ⊎_elim, lt_of_le_of_lt, arith, pow_pos}
 use Rattle.std.proofs.Math.Path.{fun_ext}
 use Rattle.std.proofs.lemmas.Nat.{and_le_r}
 use lib.Bits.{or_lt}
 use Rattle.std.specs.Int.Bits.{and_lt}
-use Rattle.std.proofs.lemmas.Bool.{eqb-true, eqb-false, eq-eqb, and_parts, and_from, cases_lt, cond_both, false_from_ne_true}
+use Rattle.std.proofs.lemmas.Bool.{eqb-true, eqb-false, eq-eqb, and_parts, and_from, cases_lt, lt-ltb, le-ltb, cond-true, cond-false, cond_both, false_from_ne_true}
 use Rattle.std.proofs.lemmas.Bool.Decides.{nat_tests}
 use Rattle.words.specs.Bits.{has, some_choice}
-use Rattle.guards.specs.Conjunctions.{Words, words, implies, as_asked, conjunction_admits, empty_words, is_consistent, canonical, is_canonical, literal_words, one_label, meet_words, AreWide}
+use Rattle.guards.specs.Conjunctions.{Words, words, implies, as_asked, conjunction_admits, full, empty_words, is_consistent, canonical, is_canonical, literal_words, one_label, meet_words, AreWide}
 use Rattle.labels.specs.Guards.{everything, literal_guard, meet, empty, IgnoresFrom}
 use Rattle.labels.specs.Literals.{signed}
 use Rattle.labels.specs.declared.literals.Literal.{Literal}
@@ -17,15 +17,61 @@ use Rattle.labels.specs.declared.literals.Sign.TheVariants.{Plus, Minus}
 use Rattle.words.proofs.Searched.{same_truth, every_label_each, every_label_same, some_choice_by, no_choice}
 use Rattle.words.proofs.Digits.{has_and, has_or, has_zero, has_pow, same_word}
 
+-- a label that the first word has is asked to be in
+implied_in : (r c : Bool) → (c && r) ≡ r → implies r c ≡ true
+implied_in r c e = grind (arith)
+
+in_implied : (r c : Bool) → implies r c ≡ true → (c && r) ≡ r
+in_implied r c e = grind (arith)
+
+-- a label that the second word has is asked to be out
+implied_out : (x c : Bool) → (c && x) ≡ false → implies x (not c) ≡ true
+implied_out x c e = grind (arith)
+
+out_implied : (x c : Bool) → implies x (not c) ≡ true → (c && x) ≡ false
+out_implied x c e = grind (arith)
+
+-- no label is both in and out
+apart : (r x c : Bool) → implies r c ≡ true → implies x (not c) ≡ true → (r && x) ≡ false
+apart r x c e f = grind (arith)
+
+implied_same : (a : Bool) → implies a a ≡ true
+implied_same a = grind (arith)
+
+implied_apart : (r x : Bool) → (r && x) ≡ false → implies x (not r) ≡ true
+implied_apart r x e = grind (arith)
+
+-- what is asked for by one or another is asked for by each
+implied_or : (a b c : Bool) → implies (a || b) c ≡ (implies a c && implies b c)
+implied_or a b c = grind (arith)
+
+-- what is asked of one label alone is as its own truth
+implied_by_eq : (l m : ℕ) (f : ℕ → Bool) → f l ≡ true → implies (l == m) (f m) ≡ true
+implied_by_eq l m f e = go (l == m) refl
+  where
+    go : (b : Bool) → (l == m) ≡ b → implies b (f m) ≡ true
+    go true t = ap f (sym (eqb-true l m t)) ∙ e
+    go false t = refl
+
 -- each label of an admitted choice is as asked
 each : (w : Words) (c : ℕ) → conjunction_admits w c ≡ true → (l : ℕ) → l < 64 → as_asked w c l ≡ true
 unfolding conjunction_admits
 each w c = (every_label_each (as_asked w c)).0
 
+-- it is in, where it must be, and out, where it must be
+pub each_in : (w : Words) (c : ℕ) → conjunction_admits w c ≡ true → (l : ℕ) → l < 64 → implies (has w.required l) (has c l) ≡ true
+each_in w c t l h = (and_parts (implies (has w.required l) (has c l)) (implies (has w.excluded l) (not (has c l))) (each w c t l h)).0
+
+pub each_out : (w : Words) (c : ℕ) → conjunction_admits w c ≡ true → (l : ℕ) → l < 64 → implies (has w.excluded l) (not (has c l)) ≡ true
+each_out w c t l h = (and_parts (implies (has w.required l) (has c l)) (implies (has w.excluded l) (not (has c l))) (each w c t l h)).1
+
 -- and a choice whose labels are all as asked is admitted
 by_each : (w : Words) (c : ℕ) → ((l : ℕ) → l < 64 → as_asked w c l ≡ true) → conjunction_admits w c ≡ true
 unfolding conjunction_admits
 by_each w c = (every_label_each (as_asked w c)).1
+
+admitted_by : (w : Words) (c : ℕ) → ((l : ℕ) → l < 64 → implies (has w.required l) (has c l) ≡ true) → ((l : ℕ) → l < 64 → implies (has w.excluded l) (not (has c l)) ≡ true) → conjunction_admits w c ≡ true
+admitted_by w c ins outs = by_each w c (λ l h. and_from (implies (has w.required l) (has c l)) (implies (has w.excluded l) (not (has c l))) (ins l h) (outs l h))
 
 -- the test by words
 pub by_words : (w : Words) (c : ℕ) → AreWide w → conjunction_admits w c ≡ (bit_and c w.required == w.required && bit_and c w.excluded == 0)
@@ -60,9 +106,12 @@ least w e =
     let none : bit_and w.required w.excluded ≡ 0 = eqb-true (bit_and w.required w.excluded) 0 e in
     by_each w w.required (λ l h. grind (arith, ap (λ v. has v l) none, has_and w.required w.excluded l, has_zero l))
 
+full_small : full < 2 ^ 64
+full_small = omega arith
+
 -- the one empty value admits no choice
 pub full_empty : (c : ℕ) → conjunction_admits empty_words c ≡ false
-full_empty c = contradiction empty_words c (record { required = omega arith; excluded = omega arith }) refl
+full_empty c = contradiction empty_words c (record { required = full_small; excluded = full_small }) refl
 
 -- the canonical words mean the same
 pub canonical_admits : (w : Words) → AreWide w → conjunction_admits (canonical w) ≡ conjunction_admits w
@@ -71,7 +120,7 @@ canonical_admits w wide =
     (λ e. fun_ext (λ c. full_empty c ∙ sym (contradiction w c wide e)))
 
 -- joined words ask for what both ask for
-joined_admits : (r x r' x' : ℕ) → conjunction_admits (words (bit_or r r') (bit_or x x')) ≡ meet (conjunction_admits (words r x)) (conjunction_admits (words r' x'))
+pub joined_admits : (r x r' x' : ℕ) → conjunction_admits (words (bit_or r r') (bit_or x x')) ≡ meet (conjunction_admits (words r x)) (conjunction_admits (words r' x'))
 joined_admits r x r' x' = fun_ext (λ c. same_truth (conjunction_admits (words (bit_or r r') (bit_or x x')) c) (conjunction_admits (words r x) c && conjunction_admits (words r' x') c) (to c) (from c))
   where
     to : (c : ℕ) → conjunction_admits (words (bit_or r r') (bit_or x x')) c ≡ true → (conjunction_admits (words r x) c && conjunction_admits (words r' x') c) ≡ true
@@ -119,6 +168,13 @@ empty_by_words w wide = ap not (go (is_consistent w) refl)
     go : (b : Bool) → is_consistent w ≡ b → b ≡ some_choice (conjunction_admits w)
     go true e = sym (some_choice_by (conjunction_admits w) w.required wide.required (least w e))
     go false e = sym (no_choice (conjunction_admits w) (λ c. contradiction w c wide e))
+
+-- a literal's words, where its label is known and where it is not
+pub known_words : (literal : Literal) (s : Sign) → literal.sign ≡ s → literal.label < 64 → literal_words literal ≡ one_label s literal.label
+known_words literal s is h = cond-true (nat_lt literal.label 64) (one_label literal.sign literal.label) empty_words (lt-ltb literal.label 64 h) ∙ ap (λ t. one_label t literal.label) is
+
+pub unknown_words : (literal : Literal) → 64 ≤ literal.label → literal_words literal ≡ empty_words
+unknown_words literal h = cond-false (nat_lt literal.label 64) (one_label literal.sign literal.label) empty_words (le-ltb literal.label 64 h)
 
 -- a literal's words admit what its guard admits
 pub literal_admits : (literal : Literal) → conjunction_admits (literal_words literal) ≡ literal_guard 64 literal

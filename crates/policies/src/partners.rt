@@ -51,13 +51,17 @@ impl Partners {
         ensures value { result ≡ listed self.now pair }
         ensures few { length self.now ≤ 256 }
     {
-        self.pairs.contains(&pair)
+        // Not by `contains`: over it a pass took a quarter longer to resolve, and more.
+        self.pairs.iter().any(|listed| *listed == pair)
     }
 
     // Lists the pair. One that is listed already is accepted, in a full list too.
     pub fn list(&mut self, viewer: i32, label: i32) -> Result<(), Fault>
-        ensures { Becomes (with_pair self.old viewer label) self.old self.new result }
+        ensures after { Becomes (with_pair self.old viewer label) self.old self.new result }
+        ensures few { length self.new ≤ 256 }
     {
+        // Only a read shows the check that the list is short, on the ways out before the next one too.
+        let _ = &self.pairs;
         let pair = Pair {
             viewer: Viewer::try_from(viewer)?.number,
             label: policy_label(label)?,

@@ -14,7 +14,7 @@ module _ {X : Type 0} (p : X → Bool) where
   all_in_any_order xs ys moved passes = list_all-from_AllPass p ys (All-permutation (λ x. p x ≡ true) xs ys moved (AllPass-from_list_all p xs passes))
 
   -- before a place and from it on
-  all_around : (xs : List X) (n : ℕ) → list_all p xs ≡ (list_all p (take n xs) && list_all p (drop n xs))
+  pub all_around : (xs : List X) (n : ℕ) → list_all p xs ≡ (list_all p (take n xs) && list_all p (drop n xs))
   all_around xs n = ap (list_all p) (sym (take-append-drop n xs)) ∙ list_all-append p (take n xs) (drop n xs)
 
   pub all_parts : (xs : List X) (n : ℕ) → list_all p xs ≡ true → (list_all p (take n xs) ≡ true) × (list_all p (drop n xs) ≡ true)
