@@ -1,11 +1,11 @@
 -- What the parts of an indexed table say of its rows. Assumes nothing.
 use Rattle.std.proofs.Common.{◌≡◌, ℕ, zero, suc, ◌<◌, ◌≤◌, Bool, true, false, ◌&&◌, ltb, leb, List, [], ◌∷◌, map, length, get_or, ℤ, pos, Some, None, vec_items, vec_len, Option, sym, refl, ap, ◌∙◌, subst, ap₂, arith}
-use Rattle.std.proofs.lemmas.List.{length-map}
+use Rattle.std.proofs.lemmas.List.{length-map, get_or-map}
 use Rattle.std.proofs.lemmas.Bool.{and_parts, lt-ltb, ltb-true, ltb-false, leb-true, leb-false}
 use Rattle.rows.specs.declared.cells.Row.{Row}
 use Rattle.std.specs.Ordering.{int_eq}
 use Rattle.rows.specs.Cells.{cell}
-use Rattle.stores.specs.Tables.{Bounded, count, facet, no_row, has_number, Lowest}
+use Rattle.stores.specs.Tables.{Bounded, count, facet, no_row, row_at, has_number, Lowest}
 use Rattle.indexed.specs.declared.tables.IndexedRows.{IndexedRows}
 use Rattle.indexed.specs.Index.{lists, LowestListed}
 use Rattle.indexed.specs.Numbers.{first_numbers}
@@ -30,6 +30,11 @@ module _ {G : Type 0} (admitted : G → ℕ → Bool) (table : IndexedRows G) wh
 
   pub has_room : false ≡ leb table.capacity (vec_len table.rows) → count (rows_table admitted table) < table.capacity
   has_room told = omega (arith, leb-false table.capacity (vec_len table.rows) (sym told), rows_count)
+
+  -- a row that was read
+  pub row_read : (place : ℕ) (row : Row G) → place < count (rows_table admitted table) → row ≡ get_or (vec_items table.rows) place row → facet admitted row ≡ row_at (rows_table admitted table) place
+  row_read place row within read =
+      ap (facet admitted) read ∙ sym (get_or-map (facet admitted) (vec_items table.rows) place row no_row (omega (arith, rows_count, table.rows.ok.0)))
 
   -- the number at a place
   number_there : (rows : List (Row G)) (place : ℕ) → get_or (first_numbers rows) place (pos 0) ≡ cell 0 (get_or (map (facet admitted) rows) place no_row).held

@@ -1,8 +1,9 @@
 -- The lowest place that passes a test. Assumes nothing.
-use Rattle.std.proofs.Common.{◌≡◌, ℕ, zero, suc, ◌<◌, ◌≤◌, Bool, true, false, cond, ◌&&◌, leb, ℤ, Some, None, Option, sym, refl, ap, ◌∙◌, ⊎_elim, arith}
-use Rattle.std.proofs.lemmas.Bool.{le-leb, lt-leb, and_from, and_left, and_right, cases_lt}
-use Rattle.std.specs.Option.{MatchOption}
-use Rattle.stores.specs.Tables.{Table, count, has_number, next_place, or_else, lowest_below, Lowest}
+use Rattle.std.proofs.Common.{◌≡◌, ℕ, zero, suc, ◌+◌, ◌<◌, ◌≤◌, Bool, true, false, cond, ◌&&◌, leb, ℤ, Some, None, Option, sym, refl, ap, ◌∙◌, ap₂, ⊎_elim, arith}
+use Rattle.std.proofs.lemmas.Bool.{le-leb, lt-leb, and_from, and_left, and_right, cases_lt, cases_eq}
+use Rattle.rows.specs.declared.cells.Cells.{Cells}
+use Rattle.rows.specs.Cells.{cell_is}
+use Rattle.stores.specs.Tables.{Table, count, row_at, has_number, next_place, or_else, lowest_below, Lowest}
 
 -- nothing passes
 lowest_none : (n : ℕ) (test : ℕ → Bool) → ((q : ℕ) → q < n → test q ≡ false) → lowest_below n test ≡ None
@@ -37,10 +38,20 @@ module _ (n : ℕ) (test : ℕ → Bool) (from : ℕ) where
   lowest_is (Some p) (after, within, passes, none) =
       sym (lowest_some n from_there p within (and_from (leb from p) (test p) (le-leb from p after) passes) (λ q h. fails q (λ later. none q later h)))
 
--- what a search of the places from one on found is the lowest
-pub lowest_found : (m n : ℕ) (test : ℕ → Bool) (from : ℕ) (r : Option ℕ) → m ≡ n → MatchOption r ((k : ℕ) → from ≤ k → k < m → test k ≡ false) (λ p. (from ≤ p) × (p < m) × (test p ≡ true) × ((k : ℕ) → from ≤ k → k < p → test k ≡ false)) → Lowest n test from r
-lowest_found m n test from None same none = λ q after within. none q after (omega arith)
-lowest_found m n test from (Some p) same (after, within, passes, none) = (after, omega arith, passes, none)
+-- a walk along the places of a table, with the number as it is asked for (n) and as it is compared (m)
+module _ (table : Table) (column : ℕ) (m n : ℤ) (same : m ≡ n) where
+  -- what was found at a place
+  pub number_at : (place : ℕ) (cells : Cells) (b : Bool) → cells ≡ (row_at table place).held → b ≡ cell_is column m cells → has_number table column n place ≡ b
+  number_at place cells b there told = sym (told ∙ ap₂ (λ k d. cell_is column k d) same there)
+
+  -- none so far
+  pub none_yet : (from place : ℕ) → ((q : ℕ) → from ≤ q → q < place → has_number table column m q ≡ false) → (q : ℕ) → from ≤ q → q < place → has_number table column n q ≡ false
+  none_yet from place none q after before = ap (λ k. has_number table column k q) (sym same) ∙ none q after before
+
+  -- none at one place more
+  pub none_more : (from place : ℕ) → ((q : ℕ) → from ≤ q → q < place → has_number table column m q ≡ false) → has_number table column n place ≡ false → (q : ℕ) → from ≤ q → q < place + 1 → has_number table column m q ≡ false
+  none_more from place none here q after before =
+      ⊎_elim (λ e. ap₂ (λ k p. has_number table column k p) same e ∙ here) (λ ne. none q after (omega arith)) (cases_eq q place)
 
 -- an answer that is the lowest is the one that the definition gives
 pub next_is : (table : Table) (from column : ℕ) (number : ℤ) (r : Option ℕ) → Lowest (count table) (has_number table column number) from r → r ≡ next_place table from column number

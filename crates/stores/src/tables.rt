@@ -40,7 +40,13 @@ pub trait Store<G: Guard> {
         ensures value { result ≡ next_place (table self.now) from column number }
         ensures lowest { Lowest (count (table self.now)) (has_number (table self.now) column number) from result }
     {
-        (from..self.count()).find(|place| self.row(*place).cells.has(column, number))
+        // A `for`: over a chain by `find` a lookup in a heap took one and a half times as long, and more.
+        for place in from..self.count() {
+            if self.row(place).cells.has(column, number) {
+                return Some(place);
+            }
+        }
+        None
     }
 
     // Adds a row behind the others.

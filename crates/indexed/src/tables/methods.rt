@@ -74,7 +74,7 @@ impl<G: Guard> IndexedRows<G> {
 
     // The row at the place, where there is one. That there is one is asked here and below in as many words: a name
     // for it would be no shorter.
-    fn stored(&self, place: u32) -> Row<G>
+    pub(super) fn stored(&self, place: u32) -> Row<G>
         requires { place < vec_len self.now.rows }
         ensures { result ≡ slice_index_or self.now.rows.items place result }
     {
@@ -102,7 +102,8 @@ impl<G: Guard> IndexedRows<G> {
         self.rows.push_reserved(*row);
     }
 
-    // Puts a row in the place of another.
+    // Puts a row in the place of another. Not inlined, so that a place with no row is refused at once.
+    #[inline(never)]
     pub(super) fn replace(&mut self, place: u32, row: &Row<G>)
         requires { place < vec_len self.old.rows }
         ensures { rows_table G.admitted self.new ≡ with_rows (rows_table G.admitted self.old) (slice_set (rows_table G.admitted self.old).rows place (facet G.admitted row.now)) }
@@ -115,7 +116,8 @@ impl<G: Guard> IndexedRows<G> {
         self.rows[place as usize] = *row;
     }
 
-    // Takes a row out, and moves the last row into the gap.
+    // Takes a row out, and moves the last row into the gap. Not inlined, for the same reason.
+    #[inline(never)]
     pub(super) fn take_out(&mut self, place: u32)
         requires { place < vec_len self.old.rows }
         ensures { rows_table G.admitted self.new ≡ with_rows (rows_table G.admitted self.old) (moved_last (rows_table G.admitted self.old).rows place) }

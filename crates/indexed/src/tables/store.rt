@@ -64,14 +64,18 @@ impl<G: Guard> Store<G> for Indexed<G> {
         self.rows.get(place).unwrap_or(no_row())
     }
 
-    // In the indexed column through the index, in any other row by row. That search is the trait's own, which a
-    // method that stands in for it cannot call.
+    // In the indexed column through the index, in any other row by row. That is the trait's own search, which a
+    // method that stands in for it cannot call, over the rows as they are stored.
     fn next(&self, from: u32, column: u32, number: i32) -> Option<u32> {
         if is_indexed(column) {
-            self.rows.index.lowest(number, from)
-        } else {
-            (from..self.count()).find(|place| self.row(*place).cells.has(column, number))
+            return self.rows.index.lowest(number, from);
         }
+        for place in from..self.rows.len() {
+            if self.rows.stored(place).cells.has(column, number) {
+                return Some(place);
+            }
+        }
+        None
     }
 
     fn add(&mut self, row: &Row<G>) -> Result<(), Fault> {
